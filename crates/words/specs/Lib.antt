@@ -1,0 +1,5 @@
+pub mod Runs
+pub mod Words
+pub mod Equality
+pub mod Order
+mod Examples

@@ -1,0 +1,4 @@
+//! What the oracle's command line and its tests share.
+
+pub mod refsheet;
+pub mod sheets;

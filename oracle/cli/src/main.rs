@@ -1,0 +1,107 @@
+//! The oracle's command line. Bad input gets a message on standard error and exit status 1.
+
+use std::io::{Read, Write};
+use std::process::ExitCode;
+
+use canon::Reading;
+use oracle::{refsheet, sheets};
+
+const USAGE: &str = "usage: oracle COMMAND
+  check [SHEET]          whether the sheet is accepted: nodes=, or refused= and at=
+  dump [SHEET]           all that the Rust makes of a sheet
+  refsheet [SHEET]       the references of a sheet and their answers, as the program refsheet prints them
+  edges [SHEET]          the pairs binding, definition of the Rust's NameDependencies, a line each
+  book SHEET SCRIPT      the outcome of each call of a script, a line each
+  tree NOTATION          the sheet of a tree in the short notation, as 21(11(28(18\"x\"),18\"x\"))
+  valid PRESET SEED      a random valid sheet
+  damaged SEED           a damaged sheet; what was done to it goes to standard error
+A SHEET is a file, or standard input where it is left out or is '-'.";
+
+fn main() -> ExitCode {
+    let arguments: Vec<String> = match std::env::args_os().skip(1).map(|a| a.into_string()).collect() {
+        Ok(list) => list,
+        Err(_) => return failed("an argument is not UTF-8"),
+    };
+    // Lowering follows the nesting of the tree, which can be deep.
+    match tix::with_big_stack(move || run(&arguments)) {
+        Ok(output) => match std::io::stdout().write_all(&output).and_then(|()| std::io::stdout().flush()) {
+            Ok(()) => ExitCode::SUCCESS,
+            Err(error) => failed(&format!("standard output: {error}")),
+        },
+        Err(message) => failed(&message),
+    }
+}
+
+fn failed(message: &str) -> ExitCode {
+    // Nothing is left to do if standard error can't be written either.
+    let _ = writeln!(std::io::stderr(), "oracle: {message}");
+    ExitCode::FAILURE
+}
+
+fn run(arguments: &[String]) -> Result<Vec<u8>, String> {
+    let words: Vec<&str> = arguments.iter().map(String::as_str).collect();
+    match words[..] {
+        ["check"] => check("-"),
+        ["check", path] => check(path),
+        ["dump"] => dump("-"),
+        ["dump", path] => dump(path),
+        ["refsheet"] => Ok(refsheet::output(&input("-")?)),
+        ["refsheet", path] => Ok(refsheet::output(&input(path)?)),
+        ["edges"] => edges("-"),
+        ["edges", path] => edges(path),
+        ["book", sheet, script] => keep_book(sheet, script),
+        ["tree", notation] => Ok(sheet::write(&sheet::short::parse(notation)?)),
+        ["valid", preset, seed] => sheets::valid(preset, number(seed)?),
+        ["damaged", seed] => damaged(number(seed)?),
+        _ => Err(USAGE.to_string()),
+    }
+}
+
+fn number(word: &str) -> Result<u64, String> {
+    word.parse().map_err(|_| format!("'{word}' is no number from 0 to {}", u64::MAX))
+}
+
+fn input(path: &str) -> Result<Vec<u8>, String> {
+    let mut bytes = Vec::new();
+    let read = match path {
+        "-" => std::io::stdin().lock().read_to_end(&mut bytes).map(|_| ()),
+        _ => std::fs::read(path).map(|file| bytes = file),
+    };
+    read.map_err(|error| format!("{path}: {error}"))?;
+    Ok(bytes)
+}
+
+fn accepted(path: &str) -> Result<Vec<sheet::Node>, String> {
+    sheet::check::check(&input(path)?).map_err(|r| format!("{path}: the sheet is refused: refused={} at={}", r.number, r.place))
+}
+
+fn check(path: &str) -> Result<Vec<u8>, String> {
+    Ok(match sheet::check::check(&input(path)?) {
+        Ok(nodes) => format!("nodes={}\n", nodes.len()),
+        Err(refusal) => refsheet::refused(refusal),
+    }
+    .into_bytes())
+}
+
+fn dump(path: &str) -> Result<Vec<u8>, String> {
+    Ok(tix::Tix::new(&accepted(path)?).facts().to_string().into_bytes())
+}
+
+fn edges(path: &str) -> Result<Vec<u8>, String> {
+    let pairs = tix::Tix::new(&accepted(path)?).edges()?;
+    Ok(pairs.iter().map(|(binding, definition)| format!("{binding} {definition}\n")).collect::<String>().into_bytes())
+}
+
+fn keep_book(sheet_path: &str, script_path: &str) -> Result<Vec<u8>, String> {
+    let nodes = accepted(sheet_path)?;
+    let script = String::from_utf8(input(script_path)?).map_err(|_| format!("{script_path}: not UTF-8"))?;
+    let calls = book::script::parse(&script).map_err(|error| format!("{script_path}: {error}"))?;
+    let mut book = book::Book::new(tix::Tix::new(&nodes));
+    Ok(calls.iter().map(|call| format!("{}\n", book.call(call))).collect::<String>().into_bytes())
+}
+
+fn damaged(seed: u64) -> Result<Vec<u8>, String> {
+    let (bytes, what) = generate::damaged(seed);
+    let _ = writeln!(std::io::stderr(), "oracle: {what}");
+    Ok(bytes)
+}
