@@ -8,7 +8,7 @@ use Rattle.words.specs.declared.ordering.Order.{Order}
 use Rattle.words.specs.declared.ordering.Order.the-variants.{Less, Equal, Greater}
 
 -- the first where the test passes, the second where it fails
-unfoldable pub pick : {A : Type 0} → Bool → A → A → A
+abbrev pub pick : {A : Type 0} → Bool → A → A → A
 pick true a b = a
 pick false a b = b
 

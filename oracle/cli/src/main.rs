@@ -12,6 +12,7 @@ const USAGE: &str = "usage: oracle COMMAND
   refsheet [SHEET]       the references of a sheet and their answers, as the program refsheet prints them
   edges [SHEET]          the pairs binding, definition of the Rust's NameDependencies, a line each
   book SHEET SCRIPT      the outcome of each call of a script, a line each
+  book --dump SHEET SCRIPT   all that holds after the script, and the change room spent
   tree NOTATION          the sheet of a tree in the short notation, as 21(11(28(18\"x\"),18\"x\"))
   valid PRESET SEED      a random valid sheet
   damaged SEED           a damaged sheet; what was done to it goes to standard error
@@ -49,6 +50,7 @@ fn run(arguments: &[String]) -> Result<Vec<u8>, String> {
         ["refsheet", path] => Ok(refsheet::output(&input(path)?)),
         ["edges"] => edges("-"),
         ["edges", path] => edges(path),
+        ["book", "--dump", sheet, script] => dump_book(sheet, script),
         ["book", sheet, script] => keep_book(sheet, script),
         ["tree", notation] => Ok(sheet::write(&sheet::short::parse(notation)?)),
         ["valid", preset, seed] => sheets::valid(preset, number(seed)?),
@@ -92,12 +94,25 @@ fn edges(path: &str) -> Result<Vec<u8>, String> {
     Ok(pairs.iter().map(|(binding, definition)| format!("{binding} {definition}\n")).collect::<String>().into_bytes())
 }
 
-fn keep_book(sheet_path: &str, script_path: &str) -> Result<Vec<u8>, String> {
+/// The book of a sheet, and the calls of a script.
+fn opened(sheet_path: &str, script_path: &str) -> Result<(book::Book<tix::Tix>, Vec<book::Call>), String> {
     let nodes = accepted(sheet_path)?;
     let script = String::from_utf8(input(script_path)?).map_err(|_| format!("{script_path}: not UTF-8"))?;
     let calls = book::script::parse(&script).map_err(|error| format!("{script_path}: {error}"))?;
-    let mut book = book::Book::new(tix::Tix::new(&nodes));
+    Ok((book::Book::new(tix::Tix::new(&nodes)), calls))
+}
+
+fn keep_book(sheet_path: &str, script_path: &str) -> Result<Vec<u8>, String> {
+    let (mut book, calls) = opened(sheet_path, script_path)?;
     Ok(calls.iter().map(|call| format!("{}\n", book.call(call))).collect::<String>().into_bytes())
+}
+
+fn dump_book(sheet_path: &str, script_path: &str) -> Result<Vec<u8>, String> {
+    let (mut book, calls) = opened(sheet_path, script_path)?;
+    calls.iter().for_each(|call| {
+        book.call(call);
+    });
+    Ok(format!("{}spent={}\n", book.facts(), book.held().room_spent).into_bytes())
 }
 
 fn damaged(seed: u64) -> Result<Vec<u8>, String> {

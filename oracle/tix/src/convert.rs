@@ -5,8 +5,9 @@ use std::collections::HashMap;
 use canon::{Answer, BindingValue, Bindings, DuplicateKey, Expr, Literal, Name, NameKind, Part, Pat, Pointer, Scope, ScopeKind};
 use la_arena::{Idx, RawIdx};
 use lang_ast::nameres::{ResolveResult, ScopeData, GLOBAL_BUILTIN_NAMES};
-use lang_ast::{classify, AstPtr, BinOP, InterpolPart, LowerDiagnostic, Module, ModuleScopes, ModuleSourceMap, NameResolution};
-use rnix::ast::{BinOpKind, UnaryOpKind};
+use lang_ast::{classify, AstPtr, BinOP, BoolBinOp, ExprBinOp, InterpolPart, LowerDiagnostic, Module, NormalBinOp, OverloadBinOp};
+use lang_ast::{ModuleScopes, ModuleSourceMap, NameResolution};
+use rnix::ast::UnaryOpKind;
 use smol_str::SmolStr;
 
 pub fn index<T>(number: u32) -> Idx<T> {
@@ -132,15 +133,34 @@ fn parts(list: &[InterpolPart<SmolStr>]) -> Vec<Part> {
     list.iter().map(part).collect()
 }
 
-/// The sheet's number of an operator, by lang_ast's own conversion of each.
+/// The sheet's number of an operator: its place among the arms of `From<BinOpKind>`.
 fn binary_flag(op: BinOP) -> u8 {
-    let place = BinOpKind::BY_FLAG.iter().position(|&kind| BinOP::from(kind) == op);
-    place.expect("every operator comes from the sheet") as u8 + 1
+    use {BoolBinOp as B, ExprBinOp as E, NormalBinOp as N, OverloadBinOp as O};
+    match op {
+        BinOP::Normal(N::ListConcat) => 1,
+        BinOP::Normal(N::AttrUpdate) => 2,
+        BinOP::Overload(O::Add) => 3,
+        BinOP::Overload(O::Sub) => 4,
+        BinOP::Overload(O::Mul) => 5,
+        BinOP::Overload(O::Div) => 6,
+        BinOP::Normal(N::Bool(B::And)) => 7,
+        BinOP::Normal(N::Bool(B::Or)) => 8,
+        BinOP::Normal(N::Bool(B::Implication)) => 9,
+        BinOP::Normal(N::Expr(E::Equal)) => 10,
+        BinOP::Normal(N::Expr(E::Less)) => 11,
+        BinOP::Normal(N::Expr(E::LessOrEq)) => 12,
+        BinOP::Normal(N::Expr(E::More)) => 13,
+        BinOP::Normal(N::Expr(E::MoreOrEq)) => 14,
+        BinOP::Normal(N::Expr(E::NotEqual)) => 15,
+    }
 }
 
+/// "1 not, 2 minus".
 fn unary_flag(op: UnaryOpKind) -> u8 {
-    let place = UnaryOpKind::BY_FLAG.iter().position(|&kind| kind == op);
-    place.expect("every operator comes from the sheet") as u8 + 1
+    match op {
+        UnaryOpKind::Invert => 1,
+        UnaryOpKind::Negate => 2,
+    }
 }
 
 pub fn scopes(module: &Module, scopes: &ModuleScopes) -> canon::Scopes {
