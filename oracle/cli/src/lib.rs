@@ -2,3 +2,4 @@
 
 pub mod refsheet;
 pub mod sheets;
+pub mod vectors;

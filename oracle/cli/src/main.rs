@@ -4,7 +4,7 @@ use std::io::{Read, Write};
 use std::process::ExitCode;
 
 use canon::Reading;
-use oracle::{refsheet, sheets};
+use oracle::{refsheet, sheets, vectors};
 
 const USAGE: &str = "usage: oracle COMMAND
   check [SHEET]          whether the sheet is accepted: nodes=, or refused= and at=
@@ -16,6 +16,7 @@ const USAGE: &str = "usage: oracle COMMAND
   tree NOTATION          the sheet of a tree in the short notation, as 21(11(28(18\"x\"),18\"x\"))
   valid PRESET SEED      a random valid sheet
   damaged SEED           a damaged sheet; what was done to it goes to standard error
+  vectors INPUT OUTPUT   writes some hundred sheets to one file and what is said of each to another
 A SHEET is a file, or standard input where it is left out or is '-'.";
 
 fn main() -> ExitCode {
@@ -55,6 +56,7 @@ fn run(arguments: &[String]) -> Result<Vec<u8>, String> {
         ["tree", notation] => Ok(sheet::write(&sheet::short::parse(notation)?)),
         ["valid", preset, seed] => sheets::valid(preset, number(seed)?),
         ["damaged", seed] => damaged(number(seed)?),
+        ["vectors", input, output] => write_vectors(input, output),
         _ => Err(USAGE.to_string()),
     }
 }
@@ -119,4 +121,11 @@ fn damaged(seed: u64) -> Result<Vec<u8>, String> {
     let (bytes, what) = generate::damaged(seed);
     let _ = writeln!(std::io::stderr(), "oracle: {what}");
     Ok(bytes)
+}
+
+fn write_vectors(input: &str, output: &str) -> Result<Vec<u8>, String> {
+    let (sheets, said) = vectors::make()?;
+    std::fs::write(input, sheets).map_err(|error| format!("{input}: {error}"))?;
+    std::fs::write(output, said).map_err(|error| format!("{output}: {error}"))?;
+    Ok(Vec::new())
 }
