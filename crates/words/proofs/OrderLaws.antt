@@ -8,19 +8,19 @@ use native.Mathlib.Omega.{arith}
 use lib.Dec.{ltb}
 use borrow.Author.Tests.{lt-ltb, le-ltb, ltb-true, ltb-false}
 use Rattle.words.specs.declared.ordering.Order.the-variants.{Less, Equal, Greater}
-use Rattle.words.specs.Order.{pick, orderOf, decide, order, flip}
+use Rattle.words.specs.Order.{orderOf, decide, order, flip}
 
 -- ---- two numbers
 pub orderOf-lt : (x y : ℕ) → x < y → orderOf x y ≡ Less
-unfolding orderOf pick
+unfolding orderOf
 orderOf-lt x y h = rw (lt-ltb x y h)
 
 pub orderOf-gt : (x y : ℕ) → y < x → orderOf x y ≡ Greater
-unfolding orderOf pick
+unfolding orderOf
 orderOf-gt x y h = rw (le-ltb x y (omega arith), lt-ltb y x h)
 
 pub orderOf-refl : (x : ℕ) → orderOf x x ≡ Equal
-unfolding orderOf pick
+unfolding orderOf
 orderOf-refl x = rw (le-ltb x x (omega arith))
 
 -- which of the three holds

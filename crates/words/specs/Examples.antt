@@ -6,7 +6,7 @@ use Rattle.words.specs.Runs.{run, splice}
 use Rattle.words.specs.Words.{number, bytesOf, word, setWord}
 use Rattle.words.specs.Equality.{equalb}
 use Rattle.words.specs.declared.ordering.Order.the-variants.{Less, Greater}
-use Rattle.words.specs.Order.{pick, orderOf, decide, order}
+use Rattle.words.specs.Order.{orderOf, decide, order}
 
 part-of-list : run (1 ∷ 2 ∷ 3 ∷ 4 ∷ []) 1 2 ≡ 2 ∷ 3 ∷ []
 unfolding run
@@ -33,9 +33,9 @@ unfolding equalb
 longer-differs = refl
 
 prefix-first : order (97 ∷ []) (97 ∷ 98 ∷ []) ≡ Less
-unfolding order decide orderOf pick
+unfolding order decide orderOf
 prefix-first = refl
 
 byte-before-length : order (98 ∷ []) (97 ∷ 98 ∷ []) ≡ Greater
-unfolding order decide orderOf pick
+unfolding order decide orderOf
 byte-before-length = refl

@@ -14,7 +14,7 @@
 //! `answer` is 0 to 3, `to` the name, the index, the Withs or empty; `list` the With list or the kept references. Shown with `{:#}` the
 //! line ends in ` moved=N,N`, the References whose answers moved, which the host is not told.
 //!
-//! `script` reads calls from text, `locality` holds a call's moved answers against demand 3.
+//! `script` reads calls from text, `random` makes them up, `locality` holds a call's moved answers against demand 3.
 
 use std::collections::BTreeMap;
 use std::fmt;
@@ -22,6 +22,7 @@ use std::fmt;
 use canon::{Answer, Expr, ExprId, Facts, Module, NameId, Reading, Resolution};
 
 pub mod locality;
+pub mod random;
 pub mod script;
 
 /// The shortest reply a call can be answered in, in bytes: below it is refusal 21.

@@ -4,7 +4,8 @@ mod common;
 
 use book::{locality, Book};
 use canon::{Answer, Expr, Facts, Reading, ScopeKind};
-use common::{on_large_stack, random_call, random_tree, Numbers};
+use common::on_large_stack;
+use generate::{Preset, Rng};
 use reading::Plain;
 use sheet::Node;
 
@@ -21,13 +22,13 @@ const TREES: [&str; 7] = [
 
 /// Puts random calls to the book of a tree; after each the moved answers must be such as may move, and at the end a fresh reading that is
 /// given the texts as they then are must say the same: no answer is left from older text. Gives how many answers moved.
-fn random_script(numbers: &mut Numbers, nodes: &[Node], calls: usize) -> usize {
+fn random_script(rng: &mut Rng, nodes: &[Node], calls: usize) -> usize {
     let mut book = Book::new(Plain::new(nodes));
     let loaded = book.facts();
     let mut moved = 0;
     for _ in 0..calls {
         let (facts, held) = (book.facts(), book.held());
-        let call = random_call(numbers, &facts);
+        let call = book::random::call(rng, &facts, false);
         let outcome = book.call(&call);
         locality::check(&facts, &call, &outcome).unwrap();
         moved += outcome.moved.len();
@@ -47,10 +48,10 @@ fn random_script(numbers: &mut Numbers, nodes: &[Node], calls: usize) -> usize {
 
 #[test]
 fn scripts_move_only_what_they_may() {
-    let mut numbers = Numbers(1);
+    let mut rng = Rng::new(1);
     for notation in TREES {
         let nodes = sheet::short::parse(notation).expect("a tree");
-        let moved: usize = (0..20).map(|_| random_script(&mut numbers, &nodes, 150)).sum();
+        let moved: usize = (0..20).map(|_| random_script(&mut rng, &nodes, 150)).sum();
         assert!(moved > 100, "the scripts of {notation} move too little to show anything: {moved}");
     }
 }
@@ -58,11 +59,11 @@ fn scripts_move_only_what_they_may() {
 #[test]
 fn scripts_over_random_trees_move_only_what_they_may() {
     on_large_stack(|| {
-        let mut numbers = Numbers(2);
+        let mut rng = Rng::new(2);
         let mut moved = 0;
-        for _ in 0..150 {
-            let nodes = random_tree(&mut numbers, 80);
-            moved += random_script(&mut numbers, &nodes, 40);
+        for seed in 0..250 {
+            let nodes = Preset::Keys.sheet(seed);
+            moved += random_script(&mut rng, &nodes, 40);
         }
         assert!(moved > 500, "the scripts move too little to show anything: {moved}");
     });
@@ -71,10 +72,9 @@ fn scripts_over_random_trees_move_only_what_they_may() {
 #[test]
 fn every_accepted_tree_keeps_the_bounds() {
     on_large_stack(|| {
-        let mut numbers = Numbers(3);
-        for round in 0..1_500 {
-            let most = if round % 100 == 0 { 3_000 } else { 120 };
-            let nodes = random_tree(&mut numbers, most);
+        for seed in 0..1_500 {
+            let preset = if seed % 100 == 0 { Preset::Large } else { Preset::Small };
+            let nodes = preset.sheet(seed);
             check_facts(nodes.len(), &Plain::new(&nodes).facts());
         }
     });

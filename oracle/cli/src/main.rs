@@ -13,6 +13,7 @@ const USAGE: &str = "usage: oracle COMMAND
   edges [SHEET]          the pairs binding, definition of the Rust's NameDependencies, a line each
   book SHEET SCRIPT      the outcome of each call of a script, a line each
   book --dump SHEET SCRIPT   all that holds after the script, and the change room spent
+  script SHEET SEED COUNT    a random script of so many calls on the sheet
   tree NOTATION          the sheet of a tree in the short notation, as 21(11(28(18\"x\"),18\"x\"))
   valid PRESET SEED      a random valid sheet
   damaged SEED           a damaged sheet; what was done to it goes to standard error
@@ -53,6 +54,7 @@ fn run(arguments: &[String]) -> Result<Vec<u8>, String> {
         ["edges", path] => edges(path),
         ["book", "--dump", sheet, script] => dump_book(sheet, script),
         ["book", sheet, script] => keep_book(sheet, script),
+        ["script", sheet, seed, count] => random_script(sheet, number(seed)?, number(count)?),
         ["tree", notation] => Ok(sheet::write(&sheet::short::parse(notation)?)),
         ["valid", preset, seed] => sheets::valid(preset, number(seed)?),
         ["damaged", seed] => damaged(number(seed)?),
@@ -115,6 +117,19 @@ fn dump_book(sheet_path: &str, script_path: &str) -> Result<Vec<u8>, String> {
         book.call(call);
     });
     Ok(format!("{}spent={}\n", book.facts(), book.held().room_spent).into_bytes())
+}
+
+/// The calls follow the texts as they then read, so that renamed names are met again.
+fn random_script(path: &str, seed: u64, count: u64) -> Result<Vec<u8>, String> {
+    let mut book = book::Book::new(tix::Tix::new(&accepted(path)?));
+    let mut rng = generate::Rng::new(seed);
+    let mut script = String::new();
+    for _ in 0..count {
+        let call = book::random::call(&mut rng, &book.facts(), seed % 8 == 1);
+        book.call(&call);
+        script += &format!("{call}\n");
+    }
+    Ok(script.into_bytes())
 }
 
 fn damaged(seed: u64) -> Result<Vec<u8>, String> {

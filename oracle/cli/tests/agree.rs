@@ -3,8 +3,8 @@
 
 use std::collections::BTreeSet;
 
-use book::{locality, Book, Call, Outcome};
-use canon::{Answer, Expr, Facts, Reading};
+use book::{locality, Book, Outcome};
+use canon::{Answer, Facts, Reading};
 use generate::{Preset, Rng};
 use reading::Plain;
 use sheet::Node;
@@ -72,36 +72,6 @@ fn checkers_agree_on_damaged_sheets() {
     assert_eq!(numbers.into_iter().collect::<Vec<_>>(), [1, 2, 3, 4, 5, 6, 7]);
 }
 
-/// A call that hits and misses: numbers mostly in range, texts of the module, builtins and new ones, buffers around the length needed.
-/// A greedy script spends the change room quickly.
-fn call(rng: &mut Rng, facts: &Facts, greedy: bool) -> Call {
-    let reply = if rng.chance(4) { rng.below(20) } else { 20 + rng.below(3) };
-    let buffer = if rng.chance(30) { rng.below(16) } else { 4 * facts.module.exprs.len() };
-    let references: Vec<u32> = facts.resolution.answers.keys().copied().collect();
-    let reference =
-        if references.is_empty() || rng.chance(10) { rng.below(facts.module.exprs.len() + 3) as u32 } else { rng.pick(&references) };
-    let name = rng.below(facts.module.names.len() + 2) as u32;
-    match rng.below(5) {
-        0 => Call::AskReference { number: reference, buffer, reply },
-        1 => Call::AskName { number: name, buffer, reply },
-        2 => Call::ChangeReference { number: reference, text: text(rng, facts, greedy), reply },
-        _ => Call::ChangeName { number: name, text: text(rng, facts, greedy), reply },
-    }
-}
-
-fn text(rng: &mut Rng, facts: &Facts, greedy: bool) -> Vec<u8> {
-    if greedy && rng.chance(80) {
-        return vec![rng.pick(b"abcdefgh"); 250 + rng.below(6)];
-    }
-    let mut texts: Vec<Vec<u8>> = facts.module.names.iter().map(|name| name.text.clone()).collect();
-    texts.extend(facts.module.exprs.iter().filter_map(|e| if let Expr::Reference(text) = e { Some(text.clone()) } else { None }));
-    texts.extend([b"map".to_vec(), b"new".to_vec(), Vec::new()]);
-    match rng.below(12) {
-        0 => vec![b'l'; 255 + rng.below(2)],
-        _ => rng.pick(&texts),
-    }
-}
-
 #[test]
 fn books_agree_on_scripts() {
     tix::with_big_stack(|| {
@@ -114,7 +84,7 @@ fn books_agree_on_scripts() {
             let mut rng = Rng::new(seed);
             for turn in 0..80 {
                 let before = plain.facts();
-                let call = call(&mut rng, &before, seed % 8 == 1);
+                let call = book::random::call(&mut rng, &before, seed % 8 == 1);
                 let outcome: Outcome = rust.call(&call);
                 assert_eq!(outcome, plain.call(&call), "script {seed}, turn {turn}: {call}");
                 assert_eq!(rust.held(), plain.held(), "script {seed}, turn {turn}: {call}");

@@ -40,6 +40,14 @@ fn generated_sheets_are_what_they_say() {
 }
 
 #[test]
+fn a_random_script_is_one_that_the_book_takes() {
+    let sheet = include_bytes!("../../../examples/lambda.sheet");
+    let script = printed(&["script", "-", "3", "25"], sheet);
+    assert_eq!(script.lines().count(), 25);
+    assert!(book::script::parse(&script).is_ok());
+}
+
+#[test]
 fn a_refused_sheet() {
     assert_eq!(printed(&["check"], b""), "refused=2\nat=0\n");
     assert_eq!(printed(&["refsheet"], b"nodes=0\n"), "refused=3\nat=0\n");
@@ -79,6 +87,8 @@ fn bad_input_gets_a_message_and_status_1() {
         &["valid", "nonsense", "1"],
         &["valid", "small", "-1"],
         &["damaged", "x"],
+        &["script", "-", "1", "many"],
+        &["vectors", "no/such/folder/in", "no/such/folder/out"],
         &["book", "-", "no/such/script"],
         &["dump"],
         &["edges"],

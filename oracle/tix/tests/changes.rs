@@ -3,12 +3,12 @@
 mod common;
 
 use canon::{Answer, Expr, Facts, Reading};
-use common::{
-    answers, definition,
-    random::{self, Random, TEXTS},
-    tix,
-};
+use common::{answers, definition, tix};
+use generate::{Preset, Rng};
 use tix::{with_big_stack, Tix};
+
+/// Few texts, so that many are equal; some are builtins.
+const TEXTS: [&[u8]; 7] = [b"a", b"b", b"x", b"", b"\xe9", b"map", b"null"];
 
 #[test]
 fn a_changed_name_uncovers_the_hidden_one() {
@@ -47,14 +47,14 @@ fn names_keep_the_order_of_entering() {
 }
 
 /// Sets some texts, and says what facts hold afterwards.
-fn changed(tix: &mut Tix, loaded: &Facts, random: &mut Random) -> Facts {
+fn changed(tix: &mut Tix, loaded: &Facts, rng: &mut Rng) -> Facts {
     let references: Vec<u32> = loaded.resolution.answers.keys().copied().collect();
     for _ in 0..5 {
         if !loaded.module.names.is_empty() {
-            tix.set_name(random.below(loaded.module.names.len()) as u32, random.of(&TEXTS));
+            tix.set_name(rng.below(loaded.module.names.len()) as u32, rng.pick(&TEXTS));
         }
         if !references.is_empty() {
-            tix.set_reference(random.of(&references), random.of(&TEXTS));
+            tix.set_reference(rng.pick(&references), rng.pick(&TEXTS));
         }
     }
     tix.facts()
@@ -63,12 +63,12 @@ fn changed(tix: &mut Tix, loaded: &Facts, random: &mut Random) -> Facts {
 #[test]
 fn scopes_stay_as_loaded() {
     with_big_stack(|| {
-        let mut random = Random::new(1);
+        let mut rng = Rng::new(1);
         for round in 0..2_000 {
-            let nodes = random::sheet(&mut random, 60);
+            let nodes = Preset::Small.sheet(round);
             let mut tix = Tix::new(&nodes);
             let loaded = tix.facts();
-            let after = changed(&mut tix, &loaded, &mut random);
+            let after = changed(&mut tix, &loaded, &mut rng);
             assert_eq!(after.scopes, loaded.scopes, "round {round}");
             assert_eq!(after.module.diagnostics, loaded.module.diagnostics, "round {round}");
             assert_eq!(after.module.exprs_by_pointer, loaded.module.exprs_by_pointer, "round {round}");

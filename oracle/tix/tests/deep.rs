@@ -3,7 +3,7 @@
 mod common;
 
 use canon::{Expr, Facts, Reading};
-use common::random::{self, Random};
+use generate::Preset;
 use sheet::{kind::*, Node};
 use tix::{with_big_stack, Tix};
 
@@ -151,13 +151,9 @@ fn check(nodes: &[Node], facts: &Facts) {
 #[test]
 fn random_sheets_are_read() {
     with_big_stack(|| {
-        let mut random = Random::new(3);
-        for round in 0..1_500 {
-            let size = if round % 100 == 0 { 3_000 } else { 80 };
-            let nodes = random::sheet(&mut random, size);
-            if depth(&nodes) <= 256 && nodes.len() <= 4_096 {
-                check(&nodes, &Tix::new(&nodes).facts());
-            }
+        for seed in 0..1_500 {
+            let nodes = if seed % 100 == 0 { Preset::Large } else { Preset::Small }.sheet(seed);
+            check(&nodes, &Tix::new(&nodes).facts());
         }
     });
 }

@@ -5,10 +5,8 @@ mod common;
 use std::collections::BTreeSet;
 
 use canon::{Answer, BindingValue, Bindings, Expr, Facts, Part, Reading};
-use common::{
-    random::{self, Random},
-    tix,
-};
+use common::tix;
+use generate::Preset;
 use tix::{with_big_stack, Tix, EDGE_BUDGET};
 
 fn edges(notation: &str) -> Vec<(u32, u32)> {
@@ -134,10 +132,9 @@ fn the_prediction_is_what_the_walk_takes() {
         for tree in narrowing_trees() {
             assert!(check_prediction(&tix(&tree)), "{tree}");
         }
-        let mut random = Random::new(2);
-        let sizes = (0..2_000).map(|_| random.of(&[20, 60, 200, 600])).collect::<Vec<_>>();
-        let walked = sizes.iter().filter(|&&size| check_prediction(&Tix::new(&random::sheet(&mut random, size)))).count();
-        assert!(walked > 1_900, "{walked} of {} were walked", sizes.len());
+        let presets = [Preset::Tiny, Preset::Small, Preset::Keys, Preset::Medium];
+        let walked = (0..2_000).filter(|&seed| check_prediction(&Tix::new(&presets[seed as usize % 4].sheet(seed)))).count();
+        assert!(walked > 1_900, "{walked} of 2,000 were walked");
     });
 }
 
@@ -212,10 +209,9 @@ fn children(expr: &Expr) -> Vec<u32> {
 #[test]
 fn the_edges_are_those_of_a_plain_walk() {
     with_big_stack(|| {
-        let mut random = Random::new(4);
         let mut pairs = 0;
         for round in 0..2_000 {
-            let tix = Tix::new(&random::sheet(&mut random, 100));
+            let tix = Tix::new(&Preset::Keys.sheet(round));
             let facts = tix.facts();
             let mut plain = Plain { facts: &facts, seen: BTreeSet::new(), pairs: BTreeSet::new() };
             plain.walk(facts.module.entry, None);

@@ -1,7 +1,5 @@
-//! What the tests share: readings of trees in short notation, and random accepted sheets.
+//! What the tests share: readings of trees in short notation.
 #![allow(dead_code)] // No test file uses all of it.
-
-pub mod random;
 
 use canon::{Answer, BindingValue, Bindings, Expr, Facts, Pointer, Reading};
 use tix::Tix;
