@@ -83,7 +83,7 @@ module _ (Store : Type 0) (kept : Store → Kept) (condition : Store → Conditi
     pub moves : eachMoves s u calls trace
 
   -- "For every list of text changes and askings, refused ones included, whatever numbers and texts they bring, from the store as an accepted load left it"
-  pub Demand3 : Type 0
+  unfoldable pub Demand3 : Type 0
   Demand3 =
       (sheet : List ℕ) (nodes : List Node) (s : Store) → LoadedFrom sheet nodes s
       → (u : Store) (calls : List (Call × Outcome)) (trace : Trace s calls u) → Holds nodes s u calls trace

@@ -138,9 +138,12 @@ fn damaged(seed: u64) -> Result<Vec<u8>, String> {
     Ok(bytes)
 }
 
+/// The files are opened first, since the sheets take a while to find.
 fn write_vectors(input: &str, output: &str) -> Result<Vec<u8>, String> {
+    let open = |path: &str| std::fs::File::create(path).map_err(|error| format!("{path}: {error}"));
+    let (mut input_file, mut output_file) = (open(input)?, open(output)?);
     let (sheets, said) = vectors::make()?;
-    std::fs::write(input, sheets).map_err(|error| format!("{input}: {error}"))?;
-    std::fs::write(output, said).map_err(|error| format!("{output}: {error}"))?;
+    input_file.write_all(&sheets).map_err(|error| format!("{input}: {error}"))?;
+    output_file.write_all(said.as_bytes()).map_err(|error| format!("{output}: {error}"))?;
     Ok(Vec::new())
 }
