@@ -1,6 +1,6 @@
 -- Demand 3, of the definitions: whatever store keeps what `Kept` says and does what `keptOutcome` and `keptAfter` say, every list of calls from an accepted
 -- load comes to what the plain book comes to, keeps every answer as it is worked out afresh, and moves only what it may.
--- Assumes that in the scopes of an accepted sheet each name is held by one scope.
+-- Assumes nothing.
 use mathlib.Core.Path.{_≡_, refl, sym, ap, _∙_}
 use mathlib.Core.Logic.{_≢_}
 use mathlib.Core.Bool.{Bool, true, false, _&&_, not}
@@ -11,8 +11,7 @@ use borrow.Author.Tests.{eqb-true, eqb-false}
 use Rattle.words.specs.Equality.{equalb}
 use Rattle.words.proofs.EqualityLaws.{equalb-refl}
 use Rattle.spec.specs.Basics.{ExprId}
-use Rattle.spec.specs.Sheet.{Node, Judged}
-use Rattle.spec.specs.Tree.{judge}
+use Rattle.spec.specs.Sheet.{Node}
 use Rattle.spec.specs.Lower.{lowerModule}
 use Rattle.spec.specs.Scopes.{scopesOf}
 use Rattle.spec.specs.Answer.{answer}
@@ -21,6 +20,7 @@ use Rattle.spec.specs.Book.{Book, bookOf, bookOutcome, bookWith, bookAft
 use Rattle.spec.specs.Kept.{Kept, loaded, keptAnswer, keptOutcome, keptWith, keptAfter, changedTo}
 use Rattle.spec.specs.Demand.{mayMove, Moves, Called, LoadedFrom, Trace, done, call, eachMoves, Holds, Demand3}
 use Rattle.spec.proofs.Locality.{HeldOnce, reference-moves-itself, name-moves}
+use Rattle.spec.proofs.Linear.{lowered-held-once}
 use Rattle.spec.proofs.Incremental.{Afresh, asBook, kept-answer, outcome-afresh, stays-afresh, after-afresh}
 
 -- ---- one call
@@ -136,10 +136,6 @@ module _ (Store : Type 0) (kept : Store → Kept) (condition : Store → Conditi
           }
 
 -- ---- demand 3
--- each name of an accepted sheet is held by one scope
-abbrev pub NamesHeldOnce : Type 0
-NamesHeldOnce = (sheet : List ℕ) (nodes : List Node) → judge sheet ≡ Judged.accepted nodes → HeldOnce (scopesOf (lowerModule nodes))
-
 -- what a load leaves is afresh, and its book is the one that demand 3 names
 loaded-afresh : (nodes : List Node) → Afresh (loaded nodes)
 unfolding loaded
@@ -153,12 +149,12 @@ loaded-scopes : (nodes : List Node) → loaded nodes .scopes ≡ scopesOf (lower
 unfolding loaded
 loaded-scopes nodes = refl
 
-module _ (once : NamesHeldOnce) (Store : Type 0) (kept : Store → Kept) (condition : Store → Condition) where
+module _ (Store : Type 0) (kept : Store → Kept) (condition : Store → Condition) where
   -- THEOREM. What demand 3 says of every list of calls from an accepted load.
   pub holds-of-calls : (sheet : List ℕ) (nodes : List Node) (s : Store) → LoadedFrom Store kept condition sheet nodes s
       → (u : Store) (calls : List (Call × Outcome)) (trace : Trace Store kept condition s calls u) → Holds Store kept condition nodes s u calls trace
   holds-of-calls sheet nodes s load u calls trace =
-      let held : HeldOnce (kept s .scopes) = rw (load .left, loaded-scopes nodes) (once sheet nodes (load .judged)) in
+      let held : HeldOnce (kept s .scopes) = rw (load .left, loaded-scopes nodes) (lowered-held-once nodes) in
       let fresh : Afresh (kept s) = rw (load .left) (loaded-afresh nodes) in
       let r = ran Store kept condition s u calls trace (load .sound) fresh held in
       let start : asBook (kept s) ≡ bookOf nodes = rw (load .left) (loaded-book nodes) in
@@ -172,7 +168,7 @@ module _ (once : NamesHeldOnce) (Store : Type 0) (kept : Store → Kept) (condit
         moves = r .moves;
       }
 
-  -- THEOREM. Demand 3, once it is known that a load enters no name twice.
+  -- THEOREM. Demand 3.
   pub demand3 : Demand3 Store kept condition
   unfolding Demand3
   demand3 = holds-of-calls

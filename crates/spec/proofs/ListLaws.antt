@@ -1,11 +1,11 @@
--- Numbers in a list, as `isIn` finds them, and lists of a function's values, as `tabulate` makes them. Assumes nothing.
-use mathlib.Core.Path.{_≡_, refl}
+-- Numbers in a list, as `isIn` finds them, lists of a function's values, as `tabulate` makes them, and lists with one more item. Assumes nothing.
+use mathlib.Core.Path.{_≡_, refl, ap, _∙_}
 use mathlib.Core.Bool.{Bool, true, false}
-use mathlib.Core.List.{List, [], _∷_}
+use mathlib.Core.List.{List, [], _∷_, _++_}
 use Prim.Native.Nat.{ℕ, zero, suc, _+_, _<_, _≤_}
 use native.Mathlib.Nat.{add-zero, add-suc, suc-add, le-of-suc-le-suc, not-suc-le-zero}
 use lib.Dec.{eqb}
-use lib.ListN.{length, getD}
+use lib.ListN.{length, getD, length-append}
 use borrow.Author.Tests.{eq-eqb}
 use Rattle.spec.specs.Scopes.{isIn}
 use Rattle.spec.specs.Kept.{tabulate}
@@ -45,3 +45,7 @@ unfolding tabulate
 getD-tabulate-past f d i [] n h = refl
 getD-tabulate-past f d i (x ∷ xs) zero h = absurd (not-suc-le-zero h)
 getD-tabulate-past f d i (x ∷ xs) (suc n) h = getD-tabulate-past f d (suc i) xs n (le-of-suc-le-suc h)
+
+-- ---- one more item
+pub length-snoc : {A : Type 0} (xs : List A) (x : A) → length (xs ++ (x ∷ [])) ≡ suc (length xs)
+length-snoc xs x = length-append xs (x ∷ []) ∙ add-suc _ _ ∙ ap suc (add-zero _)

@@ -1,0 +1,9 @@
+pub mod LineLaws
+pub mod DecimalLaws
+pub mod NumberLaws
+pub mod KindLaws
+pub mod VerdictLaws
+pub mod KidLaws
+pub mod TextLaws
+pub mod NodeLaws
+pub mod SheetLaws

@@ -1,0 +1,11 @@
+pub mod Keyed
+pub mod Faults
+pub mod Lines
+pub mod Decimals
+pub mod Numbers
+pub mod Rules
+pub mod Verdicts
+pub mod Kids
+pub mod Texts
+pub mod Nodes
+pub mod Sheets

@@ -1,0 +1,6 @@
+pub mod Tests
+pub mod SlotLaws
+pub mod PlaceLaws
+pub mod NodeLaws
+pub mod WalkLaws
+pub mod JudgeLaws
