@@ -1,7 +1,7 @@
 #!/bin/sh
 # cycle.sh NAME ANSWERS: makes the proof of the one cycle of calls of crates/NAME anew from an answers file (mkcycle.py says
 # its form; tools/answers_tree_cycle.txt is one). It removes the cycle's folder, so keep lemmas elsewhere (proofs/*Laws.antt).
-# The proofs of all that the cycle calls have to be there. Run it at the repository's root.
+# The proofs of all that the cycle calls have to be there; with HOLES=--allow-holes they may have holes. Run it at the root.
 set -eu
 : "${HOLES:=}"
 here=$(cd "$(dirname "$0")" && pwd) n=$1 answers=$2 work=$(mktemp -d)

@@ -51,7 +51,7 @@ dst=f'{cratedir}/{folder}{cyc}'
 os.makedirs(f'{dst}/Proof',exist_ok=True)
 def camel(n): return ''.join(x.capitalize() for x in n.split('-'))
 # Common
-o=['-- The measures of the cycle, what each member is given at the measure t, and what a call of it asks below t. Written by mkcycle.py.',
+o=[f'-- The measures of the cycle, what each member is given at the measure t, and what a call of it asks below t. Written by a script from {answers}. Assumes nothing.',
  'use Prim.Native.Nat.{ℕ, _<_}','use borrow.Fn.Kinds.{In}','use borrow.Fn.PlainCycle.{Measures, is, falls, and}']
 for m,k in members:
     o+=[f'use {P}.{under(m)}.Reads as {m}',f'use {P}.{under(m)}.Kinds as {m}-kinds']
@@ -69,7 +69,7 @@ for m,k in members:
     below=sorted(set(re.findall(r'(\S+-below) t',claims))|{m+'-at'})
     paths=lts_paths(m)
     A=ans.get(m,{'use':[],'a':{}}); D=ans['default']['a']
-    o=[f'-- The answers of `{under(m)}`. Written by mkcycle.py.','use Prim.Native.Nat.{ℕ}','use borrow.Author.Needs.{needs}','use native.Mathlib.Omega.{arith}']
+    o=[f'-- The answers of `{under(m)}`. Written by a script from {answers}. Assumes nothing.','use Prim.Native.Nat.{ℕ}','use borrow.Author.Needs.{needs}','use native.Mathlib.Omega.{arith}']
     for a in al: o.append(f'use {reads[a]} as {a}')
     o+=[f'use {P}.{cyc}.Lts-{under(m)} as lts',f'use {P}.{cyc}.Proof.Common.{{{", ".join(below)}}}']+A['use']+['',
     'abbrev pub calls : ℕ → lts.Claims',f'calls t = ({claims})','']
@@ -111,7 +111,7 @@ for m,k in members:
         f'done t = lts.spec (calls t) ({m}-at t) {m}.Post{extra} '+' '.join(f'({n.group(3)} t)' for n in mine),'']
     open(f'{dst}/Proof/{camel(m)}.antt','w').write('\n'.join(o))
 spec=cyc.replace('_','-')+'-spec'
-o=['-- The proof of the cycle of calls, put together from the members\' files. Written by mkcycle.py.','mod Common']+[f'mod {camel(m)}' for m,k in members]
+o=[f'-- The proof of the cycle of calls, put together from the members\' files. Written by a script from {answers}. Assumes nothing.','mod Common']+[f'mod {camel(m)}' for m,k in members]
 o+=[f'use {P}.{cyc}.{{statement}}',f'use {P}.{cyc}.Tie.{{close}}',f'use {P}.{cyc}.Proof.Common.{{{", ".join("μ-"+m for m,k in members)}}}']
 o+=[f'use {P}.{cyc}.Proof.{camel(m)} as {m}' for m,k in members]
 o+=['',f'pub {spec} : {{M : Type 1}} → statement M',f'{spec} = close '+' '.join('μ-'+m for m,k in members)+' '+' '.join(f'{m}.done' for m,k in members),'']

@@ -30,5 +30,5 @@ fn main() {
         print(SheetRead::Refused(1, 0));
         return;
     }
-    print(tree::judge_sheet(&text[..n]));
+    print(tree::judge(&text[..n]));
 }

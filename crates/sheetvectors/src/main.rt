@@ -53,7 +53,7 @@ fn judge_next(list: &[u8], at: usize) -> usize
                 return list.len();
             }
             let end = start + count;
-            print(tree::judge_sheet(&list[start..end]));
+            print(tree::judge(&list[start..end]));
             end
         }
     }

@@ -1,25 +1,25 @@
 -- From accepted lines to a judged tree. Assumes nothing.
-use mathlib.Core.Path.{_≡_, refl, sym, ap, ap₂, _∙_, subst}
+use mathlib.Core.Path.{_≡_, refl, sym, ap, ap₂, _∙_}
 use mathlib.Core.Bool.{Bool, true, false, _&&_}
-use mathlib.Core.List.{List, [], _∷_}
+use mathlib.Core.List.{List}
 use mathlib.Core.Option.{Option, none, some}
 use Prim.Native.Nat.{ℕ, _+_, _≤_, _<_}
+use Prim.Native.String.{String}
 use native.Mathlib.Omega.{arith}
-use lib.ListN.{length, drop}
+use lib.ListN.{length}
 use lib.Dec.{eqb, leb}
 use borrow.Author.Tests.{leb-true, eq-eqb, ne-eqb}
 use Rattle.spec.specs.Basics.{Text, bytes, if_then_else_, maybe}
-use Rattle.spec.specs.Sheet.{Node, Fault, malformed, wrongCount, Got, got, bad, next, line, field, number, decimal, Judged, accepted, refused, readSheet}
-use Rattle.spec.specs.Tree as spec
-use Rattle.spec.specs.Tree.{met, stopped, walkTo, wholeTree, judgeTree, judge}
+use Rattle.spec.specs.Sheet.{Fault, malformed, wrongCount, Got, got, bad, next, line, field, number, decimal, Judged, accepted, refused, readSheet}
+use Rattle.spec.specs.Tree.{walkTo, wholeTree, judgeTree, judge}
 use Rattle.spec.proofs.Reading.{Sheet, accepted-sheet}
 use Rattle.sheet.specs.Keyed.{numberOf}
 use Rattle.sheet.specs.Sheets.{answer, firstNode, placeOf}
-use Rattle.sheet.proofs.LineLaws.{number-is}
-use Rattle.sheet.proofs.LineLaws.{field-inside}
+use Rattle.sheet.proofs.LineLaws.{number-is, field-inside}
 use Rattle.sheet.specs.declared.position.Position.{Position}
 use Rattle.sheet.specs.declared.sheets.SheetRead.{SheetRead}
 use Rattle.sheet.specs.declared.sheets.SheetRead.the-variants.{Accepted, Refused}
+use Rattle.tree.proofs.Tests.{both-first}
 use Rattle.tree.specs.Nodes.{nodesIn, Stands}
 use Rattle.tree.specs.Walk.{Walks}
 use Rattle.tree.specs.Judge.{Nodes, treeAnswer}
@@ -49,7 +49,7 @@ module _ (s : List ℕ) (r : SheetRead) (e : r ≡ answer s (readSheet s)) where
 
 -- ---- the first node
 -- a field that was read passes its test
-field-passes : {A : Type 0} (key : _) (parse : Text → Option A) (why : Fault) (test : A → Bool) (s : List ℕ) (at : ℕ) (a : A) (place : ℕ)
+field-passes : {A : Type 0} (key : String) (parse : Text → Option A) (why : Fault) (test : A → Bool) (s : List ℕ) (at : ℕ) (a : A) (place : ℕ)
     → field key parse why test s at ≡ got a place → test a ≡ true
 unfolding field next
 field-passes {A} key parse why test s at a place e = go (line key s at) e
@@ -65,10 +65,6 @@ field-passes {A} key parse why test s at a place e = go (line key s at) e
     go : (g : Got Text) → next (λ v _ p. maybe (parse v) (bad malformed at) (λ b. if test b then got b p else bad why at)) s g ≡ got a place → test a ≡ true
     go (got v p) q = parsed (parse v) p q
     go (bad w p) q = let z : _≡_ {A = ℕ} 0 1 = cc in absurd (omega arith)
-
-both-first : (a b : Bool) → (a && b) ≡ true → a ≡ true
-both-first true b h = refl
-both-first false b h = h
 
 module _ (s : List ℕ) (nodes : ℕ) (first : Position) (h : Nodes s nodes first) where
   sheet : Sheet s (nodesIn s)

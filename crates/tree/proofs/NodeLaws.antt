@@ -1,9 +1,9 @@
 -- The nodes of an accepted sheet and their kids, read one after the other. Assumes nothing.
-use mathlib.Core.Path.{_≡_, refl, sym, ap, ap₂, _∙_, subst}
-use mathlib.Core.Bool.{Bool, true, false, _&&_}
-use mathlib.Core.List.{List, [], _∷_, map}
-use mathlib.Core.Option.{Option, none, some, Option·map}
-use Prim.Native.Nat.{ℕ, suc, _+_, _-_, _<_, _≤_, min}
+use mathlib.Core.Path.{_≡_, sym, ap, _∙_, subst}
+use mathlib.Core.Bool.{true}
+use mathlib.Core.List.{List, [], _∷_}
+use mathlib.Core.Option.{Option, none, some}
+use Prim.Native.Nat.{ℕ, _+_, _-_, _<_, _≤_}
 use native.Mathlib.Numerals.{add-one}
 use native.Mathlib.Omega.{arith}
 use lib.ListN.{length, drop}
@@ -13,32 +13,24 @@ use borrow.Author.Tests.{ltb-true}
 use Rattle.words.specs.Runs.{run}
 use Rattle.spec.specs.Basics.{NodeId, maybe}
 use Rattle.spec.specs.Sheet as spec
-use Rattle.spec.specs.Sheet.{Node, Got, got, bad, node, kidList, allBelow}
+use Rattle.spec.specs.Sheet.{Node, got, bad, node, allBelow}
 use Rattle.spec.specs.Tree.{nodeAt, nobody}
-use Rattle.spec.proofs.Reading.{Reads, none-left, one-more}
+use Rattle.spec.proofs.Reading.{Reads, one-more}
 use Rattle.sheet.specs.Nodes.{gotNode, FormedNode, FormedSpans}
 use Rattle.sheet.specs.declared.position.Fault.{Fault}
 use Rattle.sheet.specs.declared.nodes.Node as row
 use Rattle.sheet.specs.declared.nodes.NodeRead.{NodeRead}
 use Rattle.sheet.specs.declared.nodes.NodeRead.the-variants as read
-use Rattle.sheet.specs.Kids.{shortKid, shortKids, kidsFrom, StepInside}
+use Rattle.sheet.specs.Kids.{shortKids, kidsFrom, StepInside}
+use Rattle.sheet.proofs.KidLaws.{Before, walk-end, walk-malformed, walk-absent, walk-number}
 use Rattle.sheet.specs.declared.kids.KidStep.{KidStep}
 use Rattle.sheet.specs.declared.kids.KidStep.the-variants as step
+use Rattle.tree.proofs.Tests.{both-first}
 use Rattle.tree.specs.Nodes.{nodesIn, Stands, kidsAt, Kids, Read, After, Stepped, Fewer, Passed}
 use Rattle.tree.specs.declared.nodes.Kid.{Kid}
 use Rattle.tree.specs.declared.nodes.Kid.the-variants.{End, Absent, Number}
 use Rattle.tree.specs.declared.nodes.Past.{Past}
 use Rattle.tree.specs.declared.nodes.Past.the-variants as past
-
-both : (a b : Bool) → (a && b) ≡ true → (a ≡ true) × (b ≡ true)
-both true b h = (refl, h)
-both false b h = let z : _≡_ {A = ℕ} 0 1 = cc in absurd (omega arith)
-
-is-some : {A : Type 0} {x y : A} → some x ≡ some y → x ≡ y
-is-some h = cc
-
-impossible : {A : Type 0} {y : A} → none ≡ some y → _≡_ {A = ℕ} 0 1
-impossible h = cc
 
 -- ---- what an answer says, once it is known which it is
 module _ (s : List ℕ) (at end : ℕ) (r : Kid) (h : Stepped s at end r) where
@@ -107,80 +99,43 @@ module _ (s : List ℕ) (nodes n at : ℕ) (count : nodes ≡ length (nodesIn s)
         }
 
 -- ---- a kid
--- a number below the count of nodes is told as it is
-short-below : (nodes : ℕ) → nodes ≤ 4294967295 → (ks : List (Option NodeId)) → allBelow nodes ks ≡ true → map shortKid ks ≡ ks
-unfolding allBelow
-short-below nodes m [] h = refl
-short-below nodes m (none ∷ ks) h = ap (λ l. none ∷ l) (short-below nodes m ks h)
-short-below nodes m (some k ∷ ks) h =
-    let b = both (ltb k nodes) (allBelow nodes ks) h in
-    let l : k < nodes = ltb-true k nodes (b .0) in
-    let e : min k 4294967295 ≡ k = omega arith in
-    ap₂ (λ x l. some x ∷ l) e (short-below nodes m ks (b .1))
-
-short-told : (nodes : ℕ) → nodes ≤ 4294967295 → (ks : List (Option NodeId)) → allBelow nodes (map shortKid ks) ≡ true → map shortKid ks ≡ ks
-unfolding allBelow
-short-told nodes m [] h = refl
-short-told nodes m (none ∷ ks) h = ap (λ l. none ∷ l) (short-told nodes m ks h)
-short-told nodes m (some k ∷ ks) h =
-    let b = both (ltb (min k 4294967295) nodes) (allBelow nodes (map shortKid ks)) h in
-    let l : min k 4294967295 < nodes = ltb-true (min k 4294967295) nodes (b .0) in
-    let e : min k 4294967295 ≡ k = omega arith in
-    ap₂ (λ x l. some x ∷ l) e (short-told nodes m ks (b .1))
-
-below-tail : (nodes : ℕ) (k : Option NodeId) (ks : List (Option NodeId)) → allBelow nodes (k ∷ ks) ≡ true → allBelow nodes ks ≡ true
-unfolding allBelow
-below-tail nodes none ks h = h
-below-tail nodes (some k) ks h = both (ltb k nodes) (allBelow nodes ks) h .1
-
 below-head : (nodes k : ℕ) (ks : List (Option NodeId)) → allBelow nodes (some k ∷ ks) ≡ true → k < nodes
 unfolding allBelow
-below-head nodes k ks h = ltb-true k nodes (both (ltb k nodes) (allBelow nodes ks) h .0)
+below-head nodes k ks h = ltb-true k nodes (both-first (ltb k nodes) (allBelow nodes ks) h)
 
 module _ (s : List ℕ) (at end : ℕ) (h : Kids s at end) where
-  told : shortKids (run s at (end - at)) ≡ some (kidsAt s at end)
-  unfolding shortKids
-  told = ap (Option·map (map shortKid)) (h .formed) ∙ ap some (short-below (length (nodesIn s)) (h .few) (kidsAt s at end) (h .low))
-
-  after : (k : Option NodeId) (next : ℕ) → Option·map (λ ks. k ∷ ks) (shortKids (run s next (end - next))) ≡ some (kidsAt s at end) → at < next → next ≤ end → After s at end k next
-  unfolding shortKids kidsAt
-  after k next e l m = by-list (kidList (run s next (end - next))) refl
-    where
-      by-list : (o : Option (List (Option NodeId))) → kidList (run s next (end - next)) ≡ o → After s at end k next
-      by-list none q = let z : _≡_ {A = ℕ} 0 1 = impossible (ap (λ o. Option·map (λ ks. k ∷ ks) (Option·map (map shortKid) o)) (sym q) ∙ e) in absurd (omega arith)
-      by-list (some ks) q =
-          let whole : k ∷ map shortKid ks ≡ kidsAt s at end = is-some (ap (λ o. Option·map (λ ks. k ∷ ks) (Option·map (map shortKid) o)) (sym q) ∙ e) in
-          let low : allBelow (length (nodesIn s)) (map shortKid ks) ≡ true = below-tail (length (nodesIn s)) k (map shortKid ks) (ap (allBelow (length (nodesIn s))) whole ∙ h .low) in
-          let same : map shortKid ks ≡ ks = short-told (length (nodesIn s)) (h .few) ks low in
-          let here : kidsAt s next end ≡ ks = ap (λ o. maybe o [] (λ ks. ks)) q in
-          record {
-            same = sym whole ∙ ap (λ l. k ∷ l) (same ∙ sym here);
-            onward = l;
-            others =
-                record {
-                  ordered = m;
-                  within = h .within;
-                  formed = q ∙ ap some (sym here);
-                  low = ap (allBelow (length (nodesIn s))) (here ∙ sym same) ∙ low;
-                  few = h .few;
-                };
-          }
+  after : (k : Option NodeId) (next : ℕ) → Before s next end (length (nodesIn s)) k (kidsAt s at end) → (at < next) × (next ≤ end) → After s at end k next
+  unfolding kidsAt
+  after k next b i =
+      let here : kidsAt s next end ≡ b .rest = ap (λ o. maybe o [] (λ ks. ks)) (b .listed) in
+      record {
+        same = b .these ∙ ap (λ l. k ∷ l) (sym here);
+        onward = i .0;
+        others =
+            record {
+              ordered = i .1;
+              within = h .within;
+              formed = b .listed ∙ ap some (sym here);
+              low = ap (allBelow (length (nodesIn s))) here ∙ b .below;
+              few = h .few;
+            };
+      }
 
   module _ (r : KidStep) (e : (kidsFrom s end r ≡ shortKids (run s at (end - at))) × StepInside r at end) where
     pub step-end : r ≡ step.End → kidsAt s at end ≡ []
-    step-end q = sym (is-some (ap (kidsFrom s end) (sym q) ∙ (e .0 ∙ told)))
+    step-end = walk-end s at end (length (nodesIn s)) (h .few) (kidsAt s at end) (h .formed) (h .low) r (e .0)
+
+    pub never-malformed : r ≡ step.Malformed → ⊥
+    never-malformed = walk-malformed s at end (length (nodesIn s)) (h .few) (kidsAt s at end) (h .formed) (h .low) r (e .0)
 
     pub step-absent : (next : ℕ) → r ≡ step.Absent next → After s at end none next
-    step-absent next q = let i : StepInside (step.Absent next) at end = subst (λ r. StepInside r at end) q (e .1) in after none next (ap (kidsFrom s end) (sym q) ∙ (e .0 ∙ told)) (i .0) (i .1)
+    step-absent next q =
+        after none next (walk-absent s at end (length (nodesIn s)) (h .few) (kidsAt s at end) (h .formed) (h .low) r (e .0) next q) (subst (λ r. StepInside r at end) q (e .1))
 
     pub step-number : (k next : ℕ) → r ≡ step.Number k next → After s at end (some k) next × (k < length (nodesIn s))
     step-number k next q =
-        let i : StepInside (step.Number k next) at end = subst (λ r. StepInside r at end) q (e .1) in
-        let a = after (some k) next (ap (kidsFrom s end) (sym q) ∙ (e .0 ∙ told)) (i .0) (i .1) in
-        (a, below-head (length (nodesIn s)) k (kidsAt s next end) (ap (allBelow (length (nodesIn s))) (sym (a .same)) ∙ h .low))
-
-    pub never-malformed : r ≡ step.Malformed → ⊥
-    never-malformed q = let z : _≡_ {A = ℕ} 0 1 = impossible (ap (kidsFrom s end) (sym q) ∙ (e .0 ∙ told)) in omega arith
+        let b = walk-number s at end (length (nodesIn s)) (h .few) (kidsAt s at end) (h .formed) (h .low) r (e .0) k next q in
+        (after (some k) next b (subst (λ r. StepInside r at end) q (e .1)), below-head (length (nodesIn s)) k (b .rest) (ap (allBelow (length (nodesIn s))) (sym (b .these)) ∙ h .low))
 
 -- ---- counting
 pub one-fewer : {s : List ℕ} {at end next : ℕ} {k : Option NodeId} → After s at end k next → Fewer s at end next

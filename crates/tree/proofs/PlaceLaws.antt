@@ -1,12 +1,11 @@
 -- The places of a kind, by number. Assumes nothing.
 use mathlib.Core.Path.{_≡_, refl, sym, ap, _∙_, subst}
-use mathlib.Core.Bool.{Bool, true, false, _&&_, _||_, not}
+use mathlib.Core.Bool.{Bool, true, false, _&&_, _||_}
 use mathlib.Core.List.{List, [], _∷_}
 use mathlib.Core.Option.{Option, none, some}
 use Prim.Native.Nat.{ℕ, _<_, _≤_}
-use native.Mathlib.Omega.{arith}
 use lib.Dec.{T, ltb, leb, eqb}
-use lib.ListN.{length, getD, List·getD-eq-default}
+use lib.ListN.{length, List·getD-eq-default}
 use borrow.Author.Tests.{ltb-true, ltb-false, le-leb, lt-leb}
 use types.Run.{OneOf}
 use Rattle.spec.specs.Basics.{if_then_else_}

@@ -1,5 +1,5 @@
 -- Which slots take a kind, by number. Assumes nothing.
-use mathlib.Core.Path.{_≡_, refl, sym, ap, _∙_}
+use mathlib.Core.Path.{_≡_, refl, ap, _∙_}
 use mathlib.Core.Bool.{Bool, true, false, _&&_, _||_, not}
 use mathlib.Core.List.{List, [], _∷_}
 use Prim.Native.Nat.{ℕ, _<_, _≤_}
@@ -11,7 +11,7 @@ use Rattle.spec.specs.Kinds.{takes}
 use Rattle.tree.specs.Slots.{slotOf, slotNumber, stringTaken}
 use Rattle.tree.specs.declared.slots.Slot.{Slot}
 use Rattle.tree.specs.declared.slots.Slot.the-variants.{Expression, Path, Attribute, Entry, Part, Parameter, From, Ident, Bind, PatternEntry}
-use Rattle.tree.proofs.Tests.{both-left, both-right, or-second, allUpTo, at-number, NoneOf, someKey, no-key}
+use Rattle.tree.proofs.Tests.{or-second, allUpTo, at-number, NoneOf, someKey, no-key}
 
 abbrev same : Bool → Bool → Bool
 same true b = b

@@ -1,9 +1,9 @@
 -- Rules over the kinds, each shown by one computed test of the numbers below 34. Assumes nothing.
-use mathlib.Core.Path.{_≡_, refl, sym}
-use mathlib.Core.Bool.{Bool, true, false, _&&_, _||_, not}
+use mathlib.Core.Path.{_≡_, refl}
+use mathlib.Core.Bool.{Bool, true, false, _&&_, _||_}
 use mathlib.Core.List.{List, [], _∷_}
-use mathlib.Core.Logic.{_⊎_, inl, inr}
-use Prim.Native.Nat.{ℕ, zero, suc, _<_, _≤_}
+use mathlib.Core.Logic.{inl, inr}
+use Prim.Native.Nat.{ℕ, zero, suc, _<_}
 use native.Mathlib.Nat.{not-suc-le-zero}
 use native.Mathlib.Omega.{arith}
 use lib.Dec.{T, eqb}
@@ -18,6 +18,10 @@ both-left false b h = h
 pub both-right : (a b : Bool) → T (a && b) → T b
 both-right true b h = h
 both-right false b h = absurd h
+
+pub both-first : (a b : Bool) → (a && b) ≡ true → a ≡ true
+both-first true b h = refl
+both-first false b h = h
 
 pub or-second : (a b : Bool) → T (a || b) → a ≡ false → T b
 or-second true b h e = let z : _≡_ {A = ℕ} 0 1 = cc in absurd (omega arith)

@@ -1,12 +1,11 @@
 -- The walk of the definitions, one law for each way out of the code. Assumes nothing.
 use mathlib.Core.Path.{_≡_, refl, sym, ap, _∙_, subst}
-use mathlib.Core.Bool.{Bool, true, false, _&&_}
+use mathlib.Core.Bool.{Bool, true, false}
 use mathlib.Core.List.{List, [], _∷_}
 use mathlib.Core.Option.{Option, none, some}
-use Prim.Native.Nat.{ℕ, zero, suc, _+_, _-_, _<_}
+use Prim.Native.Nat.{ℕ, zero, suc, _+_, _-_}
 use native.Mathlib.Omega.{arith}
 use lib.ListN.{length}
-use lib.Dec.{eqb}
 use borrow.Author.Tests.{eq-eqb, ne-eqb}
 use Rattle.spec.specs.Basics.{NodeId}
 use Rattle.spec.specs.Kinds as Kinds
@@ -15,14 +14,13 @@ use Rattle.spec.specs.Sheet.{Node}
 use Rattle.spec.specs.Tree as spec
 use Rattle.spec.specs.Tree.{nodeAt, met, stopped, thenWalk, countFits, kidFits, walkKids, walkNode, walkTo}
 use Rattle.tree.specs.Places.{countedOf, listedOf, Fills}
-use Rattle.tree.specs.Nodes.{nodesIn, Stands, kidsAt, Kids, Read, After}
-use Rattle.tree.specs.Walk.{walkedOf, Moved, Walks, entering, entered, kidsWalk, Ready, Goes, Stepping, afterKid}
+use Rattle.tree.specs.Nodes.{nodesIn, kidsAt, Read, After}
+use Rattle.tree.specs.Walk.{Walks, entering, entered, kidsWalk, Ready, Goes, Stepping, afterKid}
 use Rattle.tree.specs.declared.places.Counted.{Counted}
 use Rattle.tree.specs.declared.places.Counted.the-variants.{Nothing}
 use Rattle.tree.specs.declared.places.Listed.{Listed}
 use Rattle.tree.specs.declared.places.Places.{Places}
 use Rattle.tree.specs.declared.nodes.Lines.{Lines}
-use Rattle.tree.specs.declared.walk.Front.{Front}
 use Rattle.tree.specs.declared.walk.Walked.{Walked}
 use Rattle.tree.specs.declared.walk.Walked.the-variants.{Met, Stopped}
 use Rattle.tree.specs.declared.walk.Todo.{Todo}

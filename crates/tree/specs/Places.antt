@@ -2,7 +2,6 @@
 use mathlib.Core.Path.{_≡_}
 use mathlib.Core.List.{List, [], _∷_}
 use mathlib.Core.Option.{Option, none, some}
-use Prim.Native.Nat.{ℕ}
 use Rattle.spec.specs.Kinds as Kinds
 use Rattle.tree.specs.Slots.{slotOf}
 use Rattle.tree.specs.declared.places.Counted.{Counted}

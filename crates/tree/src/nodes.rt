@@ -81,6 +81,7 @@ fn past_kid(s: &[u8], at: usize, end: usize) -> Past
     }
 }
 
+// How many kids a list has.
 pub fn count_kids(s: &[u8], start: usize, end: usize) -> usize
     requires { ⌜ Kids (now s) start end ⌝ }
     ensures { λ r. ⌜ r ≡ length (kidsAt (now (s .entry)) start end) ⌝ }

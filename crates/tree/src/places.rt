@@ -24,11 +24,13 @@ pub enum Listed {
     Each(Slot),
 }
 
+// The places of a node's kids.
 pub struct Places {
     pub counted: Counted,
     pub listed: Listed,
 }
 
+// Counted places alone.
 fn only(counted: Counted) -> Places
     ensures { λ r. ⌜ (r .counted ≡ counted) × (r .listed ≡ Listed.Nothing) ⌝ }
 {
@@ -38,6 +40,7 @@ fn only(counted: Counted) -> Places
     }
 }
 
+// Counted places, and a list after them.
 fn then_each(counted: Counted, slot: Slot) -> Places
     ensures { λ r. ⌜ (r .counted ≡ counted) × (r .listed ≡ Listed.Each slot) ⌝ }
 {
@@ -80,6 +83,7 @@ pub enum Place {
     Outside,
 }
 
+// The counted places are full.
 fn list_place(listed: Listed) -> Place
     ensures { λ r. ⌜ Opens [] (listedOf listed) r ⌝ }
 {
@@ -100,6 +104,7 @@ pub fn place_of(counted: Counted, listed: Listed) -> Place
     }
 }
 
+// How many counted places there are.
 fn size(counted: Counted) -> usize
     ensures { λ r. ⌜ r ≡ length (countedOf counted) ⌝ }
 {

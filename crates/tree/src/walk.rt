@@ -7,8 +7,7 @@ ghost use Prim.Native.Nat.{_+_, _<_};
 ghost use lib.ListN.{length};
 ghost use Rattle.spec.specs.Tree.{walkTo};
 ghost use Rattle.tree.specs.Slots.{slotOf};
-ghost use Rattle.tree.specs.Nodes.{nodesIn, Read};
-ghost use Rattle.tree.specs.Nodes.{Stands};
+ghost use Rattle.tree.specs.Nodes.{nodesIn, Stands, Read};
 ghost use Rattle.tree.specs.Walk.{Walks, entered, kidsWalk, Ready, Stepping, afterKid};
 use crate::nodes::Kid;
 use crate::nodes::Lines;
@@ -45,6 +44,7 @@ pub struct Todo {
     pub front: Front,
 }
 
+// What a step leads to.
 pub enum Step {
     More(Todo),
     Done(Walked),
@@ -124,6 +124,7 @@ fn walk_kid(s: &[u8], nodes: u32, n: u32, left: u32, todo: Todo) -> Step
     }
 }
 
+// All kids that are left.
 fn walk_kids(s: &[u8], nodes: u32, n: u32, left: u32, todo: Todo) -> Walked
     requires { ⌜ (nodes ≡ length (nodesIn (now s))) × Ready (now s) todo ⌝ }
     ensures { λ r. ⌜ Walks (now (s .entry)) (kidsWalk (now (s .entry)) left n todo) r ⌝ }

@@ -1,46 +1,35 @@
-use Rattle.tree.proofs.NodeLaws.{step-end, step-absent, step-number, never-malformed}
+-- `tree::nodes::kid_at` meets its contract. Written by a script from tools/answers_tree.txt. Assumes nothing.
 use borrow.Author.Needs.{needs}
+use Rattle.tree.proofs.NodeLaws.{step-end, step-absent, step-number, never-malformed}
 use Rattle.tree.proofs.nodes.kid_at.Statement.{statement}
 use Rattle.tree.proofs.nodes.kid_at.Tie as tie
-use Rattle.tree.proofs.nodes.kid_at.Reads as reads
-use Rattle.tree.proofs.nodes.kid_at.Lts as lts
-use Rattle.sheet.proofs.next_kid.Reads as next-kid-reads
 
--- src/nodes.rt:58:11
 next-kid-requires : tie.Need-next-kid-requires
 next-kid-requires c κs = search needs
 
--- src/nodes.rt:59:25
 enum-told : tie.Need-enum-told
 enum-told c = search needs
 
--- src/nodes.rt:60:25
 enum-known-next : tie.Need-enum-known-next
 enum-known-next c = search needs
 
--- src/nodes.rt:61:25
 enum-known-k : tie.Need-enum-known-k
 enum-known-k c = search needs
 
--- src/nodes.rt:63:31
 enum-told-2 : tie.Need-enum-told-2
 enum-told-2 c = search needs
 
--- src/nodes.rt:54:1
 returns : tie.Need-returns
-returns c = step-end ((c .before .before .before .before) .args .s .now) ((c .before .before .before .before) .args .at) ((c .before .before .before .before) .args .end) ((c .before .before .before .before) .pre) ((c .before .before .next-kid) .result) ((c .before .before .next-kid) .ensures) ((c .enum-told) .given .1)
+returns c = step-end (c .before .before .before .before .args .s .now) (c .before .before .before .before .args .at) (c .before .before .before .before .args .end) (c .before .before .before .before .pre) (c .before .before .next-kid .result) (c .before .before .next-kid .ensures) (c .enum-told .given .1)
 
--- src/nodes.rt:54:1
 returns-2 : tie.Need-returns-2
-returns-2 c = step-absent ((c .before .before .before .before .before) .args .s .now) ((c .before .before .before .before .before) .args .at) ((c .before .before .before .before .before) .args .end) ((c .before .before .before .before .before) .pre) ((c .before .before .before .next-kid) .result) ((c .before .before .before .next-kid) .ensures) _ ((c .before .next) .given .1)
+returns-2 c = step-absent (c .before .before .before .before .before .args .s .now) (c .before .before .before .before .before .args .at) (c .before .before .before .before .before .args .end) (c .before .before .before .before .before .pre) (c .before .before .before .next-kid .result) (c .before .before .before .next-kid .ensures) _ (c .before .next .given .1)
 
--- src/nodes.rt:54:1
 returns-3 : tie.Need-returns-3
-returns-3 c = step-number ((c .before .before .before .before .before) .args .s .now) ((c .before .before .before .before .before) .args .at) ((c .before .before .before .before .before) .args .end) ((c .before .before .before .before .before) .pre) ((c .before .before .before .next-kid) .result) ((c .before .before .before .next-kid) .ensures) _ _ ((c .before .k) .given .1)
+returns-3 c = step-number (c .before .before .before .before .before .args .s .now) (c .before .before .before .before .before .args .at) (c .before .before .before .before .before .args .end) (c .before .before .before .before .before .pre) (c .before .before .before .next-kid .result) (c .before .before .before .next-kid .ensures) _ _ (c .before .k .given .1)
 
--- src/nodes.rt:54:1
 returns-4 : tie.Need-returns-4
-returns-4 c = absurd (never-malformed ((c .before .before .before .before) .args .s .now) ((c .before .before .before .before) .args .at) ((c .before .before .before .before) .args .end) ((c .before .before .before .before) .pre) ((c .before .before .next-kid) .result) ((c .before .before .next-kid) .ensures) ((c .enum-told2) .given .1))
+returns-4 c = absurd (never-malformed (c .before .before .before .before .args .s .now) (c .before .before .before .before .args .at) (c .before .before .before .before .args .end) (c .before .before .before .before .pre) (c .before .before .next-kid .result) (c .before .before .next-kid .ensures) (c .enum-told2 .given .1))
 
 pub kid-at-spec : {M : Type 1} → statement M
 kid-at-spec =

@@ -1,31 +1,24 @@
-use Rattle.tree.proofs.NodeLaws.{lines-read, never-bad}
+-- `tree::nodes::lines_of` meets its contract. Written by a script from tools/answers_tree.txt. Assumes nothing.
 use native.Mathlib.Omega.{arith}
 use borrow.Author.Needs.{needs}
+use Rattle.tree.proofs.NodeLaws.{lines-read, never-bad}
 use Rattle.tree.proofs.nodes.lines_of.Statement.{statement}
 use Rattle.tree.proofs.nodes.lines_of.Tie as tie
-use Rattle.tree.proofs.nodes.lines_of.Reads as reads
-use Rattle.tree.proofs.nodes.lines_of.Lts as lts
-use Rattle.sheet.proofs.position.Position.node.Reads as node-reads
 
--- src/nodes.rt:32:11
 node-requires : tie.Need-node-requires
 node-requires c κs = search needs
 
--- src/nodes.rt:33:25
 enum-known-node : tie.Need-enum-known-node
 enum-known-node c = search needs
 
--- src/nodes.rt:44:26
 enum-known-place : tie.Need-enum-known-place
 enum-known-place c = search needs
 
--- src/nodes.rt:27:1
 returns : tie.Need-returns
-returns c = lines-read ((c .before .before .before .before .before .before .before) .args .s .now) ((c .before .before .before .before .before .before .before) .args .nodes) ((c .before .before .before .before .before .before .before) .args .n) ((c .before .before .before .before .before .before .before) .args .at) ((c .before .before .before .before .before .before .before) .pre .0) (omega arith) ((c .before .before .before .before .before .before .before) .pre .1 .0) ((c .before .before .before .before .before .before .before) .pre .1 .1) ((c .before .before .before .before .before .node) .result) ((c .before .before .before .before .before .node) .ensures) _ ((c .before .before .before .node2) .given .1)
+returns c = lines-read (c .before .before .before .before .before .before .before .args .s .now) (c .before .before .before .before .before .before .before .args .nodes) (c .before .before .before .before .before .before .before .args .n) (c .before .before .before .before .before .before .before .args .at) (c .before .before .before .before .before .before .before .pre .0) (omega arith) (c .before .before .before .before .before .before .before .pre .1 .0) (c .before .before .before .before .before .before .before .pre .1 .1) (c .before .before .before .before .before .node .result) (c .before .before .before .before .before .node .ensures) _ (c .before .before .before .node2 .given .1)
 
--- src/nodes.rt:27:1
 returns-2 : tie.Need-returns-2
-returns-2 c = absurd (never-bad ((c .before .before .before .before .before) .args .s .now) ((c .before .before .before .before .before) .args .nodes) ((c .before .before .before .before .before) .args .n) ((c .before .before .before .before .before) .args .at) ((c .before .before .before .before .before) .pre .0) (omega arith) ((c .before .before .before .before .before) .pre .1 .0) ((c .before .before .before .before .before) .pre .1 .1) ((c .before .before .before .node) .result) ((c .before .before .before .node) .ensures) _ _ ((c .before .place) .given .1))
+returns-2 c = absurd (never-bad (c .before .before .before .before .before .args .s .now) (c .before .before .before .before .before .args .nodes) (c .before .before .before .before .before .args .n) (c .before .before .before .before .before .args .at) (c .before .before .before .before .before .pre .0) (omega arith) (c .before .before .before .before .before .pre .1 .0) (c .before .before .before .before .before .pre .1 .1) (c .before .before .before .node .result) (c .before .before .before .node .ensures) _ _ (c .before .place .given .1))
 
 pub lines-of-spec : {M : Type 1} → statement M
 lines-of-spec =

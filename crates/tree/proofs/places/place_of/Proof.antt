@@ -1,47 +1,36 @@
-use Rattle.tree.specs.Places.{countedOf}
+-- `tree::places::place_of` meets its contract. Written by a script from tools/answers_tree.txt. Assumes nothing.
 use mathlib.Core.Path.{ap}
 use borrow.Author.Needs.{needs}
+use Rattle.tree.specs.Places.{countedOf}
 use Rattle.tree.proofs.places.place_of.Statement.{statement}
 use Rattle.tree.proofs.places.place_of.Tie as tie
-use Rattle.tree.proofs.places.place_of.Reads as reads
-use Rattle.tree.proofs.places.place_of.Lts as lts
-use Rattle.tree.proofs.places.list_place.Reads as list-place-reads
 
--- src/places.rt:96:24
 enum-known-counted : tie.Need-enum-known-counted
 enum-known-counted c = search needs
 
--- src/places.rt:97:22
 enum-known-counted-2 : tie.Need-enum-known-counted-2
 enum-known-counted-2 c = search needs
 
--- src/places.rt:98:22
 enum-known-counted-3 : tie.Need-enum-known-counted-3
 enum-known-counted-3 c = search needs
 
--- src/places.rt:99:29
 enum-told : tie.Need-enum-told
 enum-told c = search needs
 
--- src/places.rt:99:29
 list-place-requires : tie.Need-list-place-requires
 list-place-requires c κs = search needs
 
--- src/places.rt:92:1
 returns : tie.Need-returns
-returns c = ap countedOf ((c .before .counted) .given .1)
+returns c = ap countedOf (c .before .counted .given .1)
 
--- src/places.rt:92:1
 returns-2 : tie.Need-returns-2
-returns-2 c = ap countedOf ((c .before .counted2) .given .1)
+returns-2 c = ap countedOf (c .before .counted2 .given .1)
 
--- src/places.rt:92:1
 returns-3 : tie.Need-returns-3
-returns-3 c = ap countedOf ((c .before .counted3) .given .1)
+returns-3 c = ap countedOf (c .before .counted3 .given .1)
 
--- src/places.rt:92:1
 returns-4 : tie.Need-returns-4
-returns-4 c = rw ((c .before .enum-told) .given .1) ((c .list-place) .ensures)
+returns-4 c = rw (c .before .enum-told .given .1) (c .list-place .ensures)
 
 pub place-of-spec : {M : Type 1} → statement M
 place-of-spec =

@@ -1,4 +1,4 @@
--- The answers of `enter`. Written by mkcycle.py.
+-- The answers of `enter`. Written by a script from tools/answers_tree_cycle.txt. Assumes nothing.
 use Prim.Native.Nat.{ℕ}
 use borrow.Author.Needs.{needs}
 use native.Mathlib.Omega.{arith}
@@ -11,7 +11,6 @@ use Rattle.tree.proofs.walk.+enter+walk+walk_kid+walk_kids.Proof.Common
 use borrow.Author.Tests.{not-true, not-false}
 use mathlib.Core.Path.{_∙_, sym, ap}
 use Rattle.spec.specs.Kinds.{takes}
-use Rattle.tree.specs.Slots.{slotOf}
 use Rattle.tree.proofs.WalkLaws.{stops, walks-as, misnumbered, misplaced, too-deep, goes-in}
 
 abbrev pub calls : ℕ → lts.Claims

@@ -1,4 +1,4 @@
--- The answers of `walk_kid`. Written by mkcycle.py.
+-- The answers of `walk_kid`. Written by a script from tools/answers_tree_cycle.txt. Assumes nothing.
 use Prim.Native.Nat.{ℕ}
 use borrow.Author.Needs.{needs}
 use native.Mathlib.Omega.{arith}
@@ -9,9 +9,6 @@ use Rattle.tree.proofs.places.place_of.Reads as place-of-reads
 use Rattle.tree.proofs.walk.walk_kid.Reads as walk-kid
 use Rattle.tree.proofs.walk.+enter+walk+walk_kid+walk_kids.Lts-walk_kid as lts
 use Rattle.tree.proofs.walk.+enter+walk+walk_kid+walk_kids.Proof.Common.{enter-below, walk-kid-at}
-use mathlib.Core.Path.{_∙_, sym}
-use Rattle.tree.specs.Slots.{slotOf}
-use Rattle.tree.specs.Walk.{Stepping}
 use Rattle.tree.proofs.PlaceLaws.{is-first, is-item, is-outside}
 use Rattle.tree.proofs.NodeLaws.{kid-none, kid-absent, kid-number}
 use Rattle.tree.proofs.WalkLaws.{ended, skipped, absent-item, beyond-places, after-first, after-item, steps-as}

@@ -39,7 +39,7 @@ fn judge_tree(s: &[u8], nodes: u32, first: Position) -> SheetRead
 }
 
 // Refusals 1 to 7, or how many nodes the sheet has and where the first one starts.
-pub fn judge_sheet(s: &[u8]) -> SheetRead
+pub fn judge(s: &[u8]) -> SheetRead
     ensures { λ r. ⌜ r ≡ answer (now (s .entry)) (judge (now (s .entry))) ⌝ }
 {
     match read_sheet(s) {
