@@ -1,0 +1,12 @@
+//! Links the archive that `rt staticlib drive` writes to target/staticlib of the repository.
+
+use std::path::Path;
+
+fn main() {
+    let folder = Path::new(env!("CARGO_MANIFEST_DIR")).join("../target/staticlib");
+    let archive = folder.join("libdrive.a");
+    assert!(archive.exists(), "there is no {}: run `rt staticlib drive` first", archive.display());
+    println!("cargo::rerun-if-changed={}", archive.display());
+    println!("cargo::rustc-link-search=native={}", folder.display());
+    println!("cargo::rustc-link-lib=static=drive");
+}
