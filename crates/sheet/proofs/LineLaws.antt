@@ -138,6 +138,20 @@ module _ (s : List ℕ) (start i : ℕ) (r : Scanned s start i) where
   unfolding upToEnd
   scan-none h = sym (r .same ∙ rw (drop-of-length-le s))
 
+-- four bytes a turn: what is known before each of them
+module _ (s : List ℕ) (start i : ℕ) (r : Scanned s start i) (h : 3 < length s - i) (n : getD s i 0 ≡ 10 → ⊥) where
+  pub scan-one : Scanned s start (i + 1)
+  scan-one = scan-more s start i r (omega arith) n
+
+  pub scan-two : (getD s (i + 1) 0 ≡ 10 → ⊥) → Scanned s start (i + 2)
+  scan-two m = let e : i + 2 ≡ i + 1 + 1 = omega arith in rw e (scan-more s start (i + 1) scan-one (omega arith) m)
+
+  pub scan-three : (getD s (i + 1) 0 ≡ 10 → ⊥) → (getD s (i + 2) 0 ≡ 10 → ⊥) → Scanned s start (i + 3)
+  scan-three m o = let e : i + 3 ≡ i + 2 + 1 = omega arith in rw e (scan-more s start (i + 2) (scan-two m) (omega arith) o)
+
+  pub scan-four : (getD s (i + 1) 0 ≡ 10 → ⊥) → (getD s (i + 2) 0 ≡ 10 → ⊥) → (getD s (i + 3) 0 ≡ 10 → ⊥) → Scanned s start (i + 4)
+  scan-four m o q = let e : i + 4 ≡ i + 3 + 1 = omega arith in rw e (scan-more s start (i + 3) (scan-three m o) (omega arith) q)
+
 after-rest : (key l rest : List ℕ) → after key l ≡ some rest → length key + length rest ≡ length l
 unfolding after
 after-rest [] l rest e = let f : l ≡ rest = cc in omega (arith, ap length f)

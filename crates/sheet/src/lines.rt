@@ -31,13 +31,29 @@ fn has_key(s: &[u8], at: usize, key: &[u8]) -> bool
     words::equal(s, at, key, 0, n)
 }
 
-// The first byte 10 from `start` on.
+// The first byte 10 from `start` on. Four bytes a turn, since most of a long sheet is one long line or
+// another; the bytes that are left at the sheet's end go one by one.
 fn line_end(s: &[u8], start: usize) -> LineEnd
     requires { ⌜ start ≤ length (now s) ⌝ }
     ensures { λ r. ⌜ upTo r start (now (s .entry)) ≡ upToEnd (drop start (now (s .entry))) ⌝ }
     ensures { λ r. ⌜ EndInside r start (length (now (s .entry))) ⌝ }
 {
     let mut i = start;
+    while 3 < s.len() - i {
+        if s[i] == 10 {
+            return LineEnd::At(i);
+        }
+        if s[i + 1] == 10 {
+            return LineEnd::At(i + 1);
+        }
+        if s[i + 2] == 10 {
+            return LineEnd::At(i + 2);
+        }
+        if s[i + 3] == 10 {
+            return LineEnd::At(i + 3);
+        }
+        i += 4;
+    }
     while i < s.len() {
         if s[i] == 10 {
             return LineEnd::At(i);
