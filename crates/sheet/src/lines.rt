@@ -31,9 +31,25 @@ fn has_key(s: &[u8], at: usize, key: &[u8]) -> bool
     words::equal(s, at, key, 0, n)
 }
 
-// The first byte 10 from `start` on. Four bytes a turn, since most of a long sheet is one long line or
-// another; the bytes that are left at the sheet's end go one by one.
+// The first byte 10 from `start` on.
 fn line_end(s: &[u8], start: usize) -> LineEnd
+    requires { ⌜ start ≤ length (now s) ⌝ }
+    ensures { λ r. ⌜ upTo r start (now (s .entry)) ≡ upToEnd (drop start (now (s .entry))) ⌝ }
+    ensures { λ r. ⌜ EndInside r start (length (now (s .entry))) ⌝ }
+{
+    let mut i = start;
+    while i < s.len() {
+        if s[i] == 10 {
+            return LineEnd::At(i);
+        }
+        i += 1;
+    }
+    LineEnd::Missing
+}
+
+// The same, four bytes a turn, for a line that may be long; the last bytes of the sheet go one by one.
+// A short line is found sooner by the loop above.
+fn far_end(s: &[u8], start: usize) -> LineEnd
     requires { ⌜ start ≤ length (now s) ⌝ }
     ensures { λ r. ⌜ upTo r start (now (s .entry)) ≡ upToEnd (drop start (now (s .entry))) ⌝ }
     ensures { λ r. ⌜ EndInside r start (length (now (s .entry))) ⌝ }
@@ -76,6 +92,23 @@ impl Position {
         }
         let start = at + key.len();
         match line_end(s, start) {
+            LineEnd::At(end) => LineRead::Value(Span { start, end }),
+            LineEnd::Missing => LineRead::Malformed,
+        }
+    }
+
+    // The same, for a line that may be long.
+    pub fn long_line(self, s: &[u8], key: &[u8]) -> LineRead
+        requires { ⌜ self .at ≤ length (now s) ⌝ }
+        ensures { λ r. ⌜ gotLine (now (s .entry)) (self .at) r ≡ lineOf (now (key .entry)) (now (s .entry)) (self .at) ⌝ }
+        ensures { λ r. ⌜ ValueInside r (length (now (s .entry))) ⌝ }
+    {
+        let at = self.at;
+        if !has_key(s, at, key) {
+            return LineRead::Malformed;
+        }
+        let start = at + key.len();
+        match far_end(s, start) {
             LineEnd::At(end) => LineRead::Value(Span { start, end }),
             LineEnd::Missing => LineRead::Malformed,
         }

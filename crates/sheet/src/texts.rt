@@ -211,7 +211,7 @@ impl Position {
         ensures { λ r. ⌜ FormedIn hex decoded (textFits (kindOf kind .text) flag) (now (s .entry)) r ⌝ }
     {
         let at = self.at;
-        match self.line(s, b"text=") {
+        match self.long_line(s, b"text=") {
             LineRead::Malformed => SpanRead::Bad(Fault::Malformed, at),
             LineRead::Value(v) => {
                 let start = v.start;

@@ -13,11 +13,11 @@ use Rattle.spec.specs.Basics.{bytes}
 use Rattle.sheet.proofs.position.Position.text.Statement.{statement}
 use Rattle.sheet.proofs.position.Position.text.Tie as tie
 
-slice-aggregate-line : tie.Need-slice-aggregate-line
-slice-aggregate-line c = search needs
+slice-aggregate-long-line : tie.Need-slice-aggregate-long-line
+slice-aggregate-long-line c = search needs
 
-line-requires : tie.Need-line-requires
-line-requires c κs = search needs
+long-line-requires : tie.Need-long-line-requires
+long-line-requires c κs = search needs
 
 enum-told : tie.Need-enum-told
 enum-told c = search needs
@@ -26,25 +26,25 @@ enum-known-v : tie.Need-enum-known-v
 enum-known-v c = search needs
 
 judge-text-requires : tie.Need-judge-text-requires
-judge-text-requires c κs = let i = value-inside (c .before .before .before .line .result) (c .before .v .given .0 .0) _ (c .before .v .given .1) (c .before .before .before .line .ensures .1) in (i .0, omega arith)
+judge-text-requires c κs = let i = value-inside (c .before .before .before .long-line .result) (c .before .v .given .0 .0) _ (c .before .v .given .1) (c .before .before .before .long-line .ensures .1) in (i .0, omega arith)
 
 told-requires : tie.Need-told-requires
 told-requires c κs = search needs
 
 returns : tie.Need-returns
 unfolding lineOf line fieldOf field
-returns c = told-other (bytes "text=") hex decoded text-agree fault.WrongText (textFits (kindOf (c .before .before .before .before .before .args .kind) .text) (c .before .before .before .before .before .args .flag)) (c .before .before .before .before .before .args .s .now) (c .before .before .before .before .before .args .self .at) (c .before .before .line .result) (c .before .before .line .ensures .0) (c .enum-told .given .1)
+returns c = told-other (bytes "text=") hex decoded text-agree fault.WrongText (textFits (kindOf (c .before .before .before .before .before .args .kind) .text) (c .before .before .before .before .before .args .flag)) (c .before .before .before .before .before .args .s .now) (c .before .before .before .before .before .args .self .at) (c .before .before .long-line .result) (c .before .before .long-line .ensures .0) (c .enum-told .given .1)
 
 returns-2 : tie.Need-returns-2
 unfolding lineOf line fieldOf field
-returns-2 c = told-judged (bytes "text=") hex decoded text-agree fault.WrongText (textFits (kindOf (c .before .before .before .before .before .before .before .before .args .kind) .text) (c .before .before .before .before .before .before .before .before .args .flag)) (c .before .before .before .before .before .before .before .before .args .s .now) (c .before .before .before .before .before .before .before .before .args .self .at) (c .before .before .before .before .before .line .result) (c .before .before .before .before .before .line .ensures .0) (c .before .before .before .v .given .0 .0) (c .before .before .before .v .given .1) (c .before .before .before .before .before .line .ensures .1) (c .before .judge-text .result) (c .before .judge-text .ensures) (c .told .result) (c .told .ensures)
+returns-2 c = told-judged (bytes "text=") hex decoded text-agree fault.WrongText (textFits (kindOf (c .before .before .before .before .before .before .before .before .args .kind) .text) (c .before .before .before .before .before .before .before .before .args .flag)) (c .before .before .before .before .before .before .before .before .args .s .now) (c .before .before .before .before .before .before .before .before .args .self .at) (c .before .before .before .before .before .long-line .result) (c .before .before .before .before .before .long-line .ensures .0) (c .before .before .before .v .given .0 .0) (c .before .before .before .v .given .1) (c .before .before .before .before .before .long-line .ensures .1) (c .before .judge-text .result) (c .before .judge-text .ensures) (c .told .result) (c .told .ensures)
 
 pub text-spec : {M : Type 1} → statement M
 text-spec =
     tie.close
     (tie.spec
-    slice-aggregate-line
-    line-requires
+    slice-aggregate-long-line
+    long-line-requires
     enum-told
     enum-known-v
     judge-text-requires
