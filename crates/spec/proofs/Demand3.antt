@@ -137,7 +137,7 @@ module _ (Store : Type 0) (kept : Store → Kept) (condition : Store → Conditi
 
 -- ---- demand 3
 -- what a load leaves is afresh, and its book is the one that demand 3 names
-loaded-afresh : (nodes : List Node) → Afresh (loaded nodes)
+pub loaded-afresh : (nodes : List Node) → Afresh (loaded nodes)
 unfolding loaded
 loaded-afresh nodes = record { answers = refl; references = refl }
 

@@ -99,12 +99,12 @@ module _ (m : Module) (f : ExprId → Option Answer) (r : NameId → List ExprId
 
   module _ (n : ExprId) (t : Text) (reply : ℕ) (passed : isAccepted (outcome m f r spent store (changeReference n t reply)) ≡ true) where
     -- there is an expression of the number
-    reference-there : n < length (m .exprs)
+    pub reference-there : n < length (m .exprs)
     unfolding answerCall
     reference-there = leb-false _ n (check-passed _ 24 n _ (call-passed (changeReference n t reply) passed) .0)
 
     -- and it is a Reference
-    reference-known : (u : Text) × (referenceText (exprAt m n) ≡ some u)
+    pub reference-known : (u : Text) × (referenceText (exprAt m n) ≡ some u)
     unfolding answerCall ifReference isAccepted
     reference-known = go (referenceText (exprAt m n)) (check-passed _ 24 n _ (call-passed (changeReference n t reply) passed) .1)
       where

@@ -146,16 +146,16 @@ module _ {σ : Scale} {s : SetId} where
       go E Z st base I b (some i) h = there E Z st base I b i h (nestedIn (getD (st .entries) i (source 0 0))) refl
 
 -- ---- a set of its own, on top of those that are being merged
--- what is finished weighs no more than what stands on top
-top-weighs : (σ : Scale) (E more : List MergingEntry) (low high : ℕ) → All (NamesSets 0 low) E → All (NamesSets low high) more → MetOnce (nestedOf more)
-    → (b t : ℕ) → low ≤ t → setWeight σ (E ++ more) b t ≤ sumBy (own σ) more
-top-weighs σ E more low high base named once b t le =
+-- what is finished weighs no more than what stands on top, whatever entries weigh
+pub top-weighs : (g : MergingEntry → ℕ) (E more : List MergingEntry) (low high : ℕ) → All (NamesSets 0 low) E → All (NamesSets low high) more → MetOnce (nestedOf more)
+    → (b t : ℕ) → low ≤ t → total (nestedOf (E ++ more)) (ownOf g (E ++ more)) b t ≤ sumBy g more
+top-weighs g E more low high base named once b t le =
     let others : (r : SetId) → low ≤ r → All (λ e. ¬ (setOf e ≡ r)) E = λ r l. all-map _ _ (λ e n p. let x = n .0 .1 in omega arith) E base in
-    let h = total-within (nestedOf (E ++ more)) (λ r. low ≤ r) (nestedOf more) (ownOf (own σ) (E ++ more)) (ownOf (own σ) more)
+    let h = total-within (nestedOf (E ++ more)) (λ r. low ≤ r) (nestedOf more) (ownOf g (E ++ more)) (ownOf g more)
     (λ r l. nested-skips E more r (others r l))
     (λ r l. nested-all _ more r (all-map _ _ (λ e n. all-map _ _ (λ u x. x .0) (oneOrNone (nestedIn e)) (n .1)) more named))
-    (λ r l. let x = own-none (own σ) E more r (others r l) in omega arith) b t le in
-    let k = met-weighs (own σ) (nestedOf more) once more b t in
+    (λ r l. let x = own-none g E more r (others r l) in omega arith) b t le in
+    let k = met-weighs g (nestedOf more) once more b t in
     omega arith
 
 -- THEOREM. A set that is merged and finished by itself leaves those around it as they were, and what it is finished to weighs no more than has been paid.
@@ -200,7 +200,7 @@ inner-lowers {σ} {A} {w} k q body fin merges finished E =
               let i = f .weighs z3 in
               let j = m .weighs (f .fits z3) in
               let u : setWeight σ (st2 .entries) b (length (st .sets)) ≤ sumBy (own σ) (I .more) =
-              rw (I .entries) (top-weighs σ (st .entries) (I .more) (length (st .sets)) (length (st2 .sets)) known (I .names) (I .once) b (length (st .sets)) (omega arith)) in
+              rw (I .entries) (top-weighs (own σ) (st .entries) (I .more) (length (st .sets)) (length (st2 .sets)) known (I .names) (I .once) b (length (st .sets)) (omega arith)) in
               let v : pot σ st2 ≡ pot σ st + sumBy (own σ) (I .more) = rw (I .entries) (sum-append (own σ) (st .entries) (I .more)) in
               omega arith;
         }
@@ -257,7 +257,7 @@ module _ {σ : Scale} (nodes : List Node) (lower : NodeId → Low ExprId) (merge
       merges-next (inner-lowers _ (pointer nodes attr) rest finishExpr h (expr-finishes σ)) λ e.
       merges-next (opt key) λ k. adds (dynamic s k e) refl refl (omega arith)
 
-  nested-merges : (s : SetId) (attr : NodeId) (more : List NodeId) (value : Option NodeId) → Merges σ 0 s (mergeNestedAttrValue nodes lower merge s attr more value)
+  pub nested-merges : (s : SetId) (attr : NodeId) (more : List NodeId) (value : Option NodeId) → Merges σ 0 s (mergeNestedAttrValue nodes lower merge s attr more value)
   unfolding mergeNestedAttrValue
   nested-merges s attr [] value = attr-merges s attr value
   nested-merges s attr (a ∷ more) value = step-merges s attr _ (λ t. nested-merges t a more value) (attrKind nodes attr)
@@ -315,11 +315,11 @@ module _ {σ : Scale} (nodes : List Node) (lower : NodeId → Low ExprId) (merge
 -- ---- the knot
 module _ (σ : Scale) (nodes : List Node) where
   -- a record, so that what is recursive in the depth is one thing
-  record AtDepth (depth : ℕ) : Type 0 where
-    lowers : (E : List MergingEntry) (n : NodeId) → Lowers σ E 0 (σ .weight) (lowerExpr nodes depth n)
-    merges : (s : SetId) (n : NodeId) → Merges σ 0 s (mergeBindings nodes depth s n)
+  pub record AtDepth (depth : ℕ) : Type 0 where
+    pub lowers : (E : List MergingEntry) (n : NodeId) → Lowers σ E 0 (σ .weight) (lowerExpr nodes depth n)
+    pub merges : (s : SetId) (n : NodeId) → Merges σ 0 s (mergeBindings nodes depth s n)
 
-  at-depth : (depth : ℕ) → AtDepth depth
+  pub at-depth : (depth : ℕ) → AtDepth depth
   unfolding lowerExpr mergeBindings
   at-depth zero = record { lowers = λ E n. lowers-missing; merges = λ s n. merges-give }
   at-depth (suc depth) = go (at-depth depth)
@@ -360,9 +360,9 @@ upTo-zero : (n : ℕ) → upTo (λ _. 0) n ≡ 0
 upTo-zero zero = refl
 upTo-zero (suc n) = let h = upTo-zero n in omega arith
 
--- THEOREM. In the scopes of a lowered module each name is held by one scope.
-pub lowered-held-once : (nodes : List Node) → HeldOnce (scopesOf (lowerModule nodes))
-lowered-held-once nodes = held-once (lowerModule nodes) λ x.
+-- THEOREM. The walk of a lowered module enters each name at most once.
+pub lowered-entered-once : (nodes : List Node) (x : NameId) → timesEntered (lowerModule nodes) x (suc (lowerModule nodes .entry)) (lowerModule nodes .entry) ≤ 1
+lowered-entered-once nodes x =
     let m = lowerModule nodes in
     let b = suc (m .entry) in
     let σ : Scale = record {
@@ -376,6 +376,10 @@ lowered-held-once nodes = held-once (lowerModule nodes) λ x.
     let i = upTo-same x (length (m .names)) in
     let j = upTo-zero (length (m .exprs)) in
     omega arith
+
+-- THEOREM. In the scopes of a lowered module each name is held by one scope.
+pub lowered-held-once : (nodes : List Node) → HeldOnce (scopesOf (lowerModule nodes))
+lowered-held-once nodes = held-once (lowerModule nodes) (lowered-entered-once nodes)
 
 -- ---- what is walked
 -- how often the walk from an expression comes to the expression c, so many levels down

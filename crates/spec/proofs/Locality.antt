@@ -24,7 +24,7 @@ use Rattle.spec.proofs.BoolLaws.{differ, neither, decided}
 use Rattle.spec.proofs.Chain.{InReach, answerAt-same}
 
 -- what has a Reference's text is that Reference
-is-reference : (d : Expr) (t : Text) → referenceText d ≡ some t → d ≡ reference t
+pub is-reference : (d : Expr) (t : Text) → referenceText d ≡ some t → d ≡ reference t
 unfolding referenceText
 is-reference missing t h = cc
 is-reference (apply f a) t h = cc

@@ -128,13 +128,13 @@ module _ {σ : Scale} {E : List MergingEntry} {Z : List MergingSet} where
       same g r = let h = nested-append g r (I .more) (e ∷ []) in let i = none-nested (eqb (setOf e) r) g in omega arith
 
 -- ---- an entry in its place
-withValue-set : (v : BindingValue) (e : MergingEntry) → setOf (withValue v e) ≡ setOf e
+pub withValue-set : (v : BindingValue) (e : MergingEntry) → setOf (withValue v e) ≡ setOf e
 unfolding withValue
 withValue-set v (static s k x nested value) = refl
 withValue-set v (source s e) = refl
 withValue-set v (dynamic s k w) = refl
 
-withValue-nested : (v : BindingValue) (e : MergingEntry) → nestedIn (withValue v e) ≡ nestedIn e
+pub withValue-nested : (v : BindingValue) (e : MergingEntry) → nestedIn (withValue v e) ≡ nestedIn e
 unfolding withValue nestedIn
 withValue-nested v (static s k x nested value) = refl
 withValue-nested v (source s e) = refl
@@ -146,7 +146,7 @@ withValue-own σ v (static s k x nested value) = omega arith
 withValue-own σ v (source s e) = omega arith
 withValue-own σ v (dynamic s k w) = omega arith
 
-withNested-set : (t : SetId) (e : MergingEntry) → setOf (withNested t e) ≡ setOf e
+pub withNested-set : (t : SetId) (e : MergingEntry) → setOf (withNested t e) ≡ setOf e
 unfolding withNested
 withNested-set t (static s k x nested value) = refl
 withNested-set t (source s e) = refl
@@ -158,7 +158,7 @@ withNested-own σ t (static s k x nested value) = refl
 withNested-own σ t (source s e) = refl
 withNested-own σ t (dynamic s k w) = refl
 
-withNested-nested : (s : SetId) (key : Text) (t : SetId) (e : MergingEntry) → isAt s key e ≡ true → nestedIn (withNested t e) ≡ some t
+pub withNested-nested : (s : SetId) (key : Text) (t : SetId) (e : MergingEntry) → isAt s key e ≡ true → nestedIn (withNested t e) ≡ some t
 unfolding withNested nestedIn isAt
 withNested-nested s key t (static u k x nested value) h = refl
 withNested-nested s key t (source u e) h = differ (sym h)

@@ -42,11 +42,11 @@ abbrev pub timesEntered : Module → NameId → ℕ → ExprId → ℕ
 timesEntered m x = total (walked m) (λ e. sumBy (same x) (entered m e))
 
 -- ---- how often the scopes hold a name
-abbrev heldBy : NameId → ScopeKind → ℕ
+abbrev pub heldBy : NameId → ScopeKind → ℕ
 heldBy x (definitions xs) = sumBy (same x) xs
 heldBy x (withExpr e) = 0
 
-abbrev held : NameId → List Scope → ℕ
+abbrev pub held : NameId → List Scope → ℕ
 held x ss = sumBy (λ s. heldBy x (s .kind)) ss
 
 module _ (x : NameId) where
@@ -150,11 +150,14 @@ module _ (x : NameId) where
   counted-once (d ∷ ds) le (suc s) zero i i′ h h′ = let r = holds-counts (d .kind) h′ in let r′ = held-counts ds s (omega arith) h in omega arith
   counted-once (d ∷ ds) le (suc s) (suc s′) i i′ h h′ = ap suc (counted-once ds (omega arith) s s′ (omega arith) (omega arith) h h′)
 
--- THEOREM. Where the expressions met from the entry enter no name twice, each name is held by one scope.
-pub held-once : (m : Module) → ((x : NameId) → timesEntered m x (suc (m .entry)) (m .entry) ≤ 1) → HeldOnce (scopesOf m)
+-- Where the expressions met from the entry enter a name at most once, the scopes hold it at most once.
+pub held-few : (m : Module) (x : NameId) → timesEntered m x (suc (m .entry)) (m .entry) ≤ 1 → held x (scopesOf m .scopes) ≤ 1
 unfolding scopesOf traverseExpr
-held-once m h x s s′ =
+held-few m x h =
     let start : Scopes = record { scopes = record { parent = none; kind = definitions [] } ∷ []; ofExpr = replicate (length (m .exprs)) none } in
     let r = walk-enters x m (suc (m .entry)) 0 (m .entry) .adds start in
-    let k = h x in
-    counted-once x (scopesOf m .scopes) (omega arith) s s′
+    omega arith
+
+-- THEOREM. Where the expressions met from the entry enter no name twice, each name is held by one scope.
+pub held-once : (m : Module) → ((x : NameId) → timesEntered m x (suc (m .entry)) (m .entry) ≤ 1) → HeldOnce (scopesOf m)
+held-once m h x s s′ = counted-once x (scopesOf m .scopes) (held-few m x (h x)) s s′

@@ -27,7 +27,7 @@ pub record Read {A B : Type 0} (f : A → Reader B) (s : List ℕ) (r : Got A) (
   pub first : r ≡ got value place
   pub rest : f value s place ≡ got b at
 
-read : {A B : Type 0} (f : A → Reader B) (s : List ℕ) (r : Got A) (b : B) (at : ℕ) → next f s r ≡ got b at → Read f s r b at
+pub read : {A B : Type 0} (f : A → Reader B) (s : List ℕ) (r : Got A) (b : B) (at : ℕ) → next f s r ≡ got b at → Read f s r b at
 unfolding next
 read f s (got a place) b at e = record { value = a; place = place; first = refl; rest = e }
 read f s (bad w place) b at e = let z : _≡_ {A = ℕ} 0 1 = cc in absurd (omega arith)
@@ -116,7 +116,7 @@ sheet-read s ns e = sized (leb (length s) 1048576) e
     sized false e = let z : _≡_ {A = ℕ} 0 1 = cc in absurd (omega arith)
 
 -- ---- the walk accepts the nodes that were read
-judged-same : (ns nodes : List Node) → judgeTree (accepted ns) ≡ accepted nodes → ns ≡ nodes
+pub judged-same : (ns nodes : List Node) → judgeTree (accepted ns) ≡ accepted nodes → ns ≡ nodes
 unfolding judgeTree wholeTree
 judged-same ns nodes e = go (walkTo ns 255 0) e
   where

@@ -18,7 +18,7 @@ pub and-true : (p q : Bool) → p && q ≡ true → (p ≡ true) × (q ≡ true)
 and-true true q e = (refl, e)
 and-true false q e = let z : _≡_ {A = ℕ} 0 1 = cc in absurd (omega arith)
 
-not-met : {A : Type 0} {number place h : ℕ} → stopped number place ≡ met h → A
+pub not-met : {A : Type 0} {number place h : ℕ} → stopped number place ≡ met h → A
 not-met e = let z : _≡_ {A = ℕ} 0 1 = cc in absurd (omega arith)
 
 after-at : (ks : List (Option NodeId)) (i : ℕ) → getD (afterFirst ks) i none ≡ getD ks (suc i) none
@@ -55,14 +55,14 @@ module _ (nodes : List Node) where
 
   -- ---- a node's kids
   -- a kid was entered, and then the rest was walked
-  record Entered (enter : NodeId → Walked) (rest : ℕ → Walked) (slot : Slot) (k a h : ℕ) : Type 0 where
-    mid : ℕ
-    next : k ≡ suc a
-    taken : takes slot (kind nodes k) ≡ true
-    into : enter k ≡ met mid
-    then-on : rest mid ≡ met h
+  pub record Entered (enter : NodeId → Walked) (rest : ℕ → Walked) (slot : Slot) (k a h : ℕ) : Type 0 where
+    pub mid : ℕ
+    pub next : k ≡ suc a
+    pub taken : takes slot (kind nodes k) ≡ true
+    pub into : enter k ≡ met mid
+    pub then-on : rest mid ≡ met h
 
-  entered : (enter : NodeId → Walked) (rest : ℕ → Walked) (slot : Slot) (k a h n : ℕ) (t : Bool) (w : Walked) → kidFits nodes slot k a ≡ t → enter k ≡ w → (elim t as (λ _. Walked) [ true ↦ thenWalk w rest | false ↦ stopped 5 n ]) ≡ met h → Entered enter rest slot k a h
+  pub entered : (enter : NodeId → Walked) (rest : ℕ → Walked) (slot : Slot) (k a h n : ℕ) (t : Bool) (w : Walked) → kidFits nodes slot k a ≡ t → enter k ≡ w → (elim t as (λ _. Walked) [ true ↦ thenWalk w rest | false ↦ stopped 5 n ]) ≡ met h → Entered enter rest slot k a h
   unfolding thenWalk kidFits kind
   entered enter rest slot k a h n true (met m) p q e =
       let f = and-true (eqb k (a + 1)) _ p in
@@ -109,7 +109,7 @@ module _ (nodes : List Node) where
       omega (arith, z .next, up k (z .mid) (z .into), kids-le enter up n [] (some slot) ks (z .mid) h (z .then-on))
 
   -- ---- a node
-  node-kids : (enter : NodeId → Walked) (n h : ℕ) → walkNode nodes enter n ≡ met h → walkKids nodes enter n (kindOf (nodeAt nodes n .kind) .counted) (kindOf (nodeAt nodes n .kind) .listed) (nodeAt nodes n .kids) n ≡ met h
+  pub node-kids : (enter : NodeId → Walked) (n h : ℕ) → walkNode nodes enter n ≡ met h → walkKids nodes enter n (kindOf (nodeAt nodes n .kind) .counted) (kindOf (nodeAt nodes n .kind) .listed) (nodeAt nodes n .kids) n ≡ met h
   unfolding walkNode
   node-kids enter n h e = go (countFits (nodeAt nodes n .kind) (length (nodeAt nodes n .kids))) e
     where
