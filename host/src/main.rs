@@ -1,27 +1,24 @@
-//! Runs of the compiled Rattle code, through the static library of crates/drive: against the oracle's checker, and against the clock.
+//! Runs of the compiled Rattle code, through the static library of crates/drive: against the oracle's checker, against a reader and a
+//! check that were written from docs/STORE.md, and against the clock.
 
 mod compare;
 mod drive;
 mod speed;
+#[cfg(feature = "stand-in")]
+mod stand_in;
+mod store;
 
 use std::process::ExitCode;
 
 const USAGE: &str = "host judge DAMAGED VALID [SEED]   so many damaged and valid sheets, judged by both sides
-host speed                        nanoseconds for each byte of a sheet";
+host speed                        nanoseconds for each byte of a sheet
+host store FILLS DAMAGED [SEED]   so many modules built in a store and read back, and so many damaged stores, judged by both sides
+host store-speed                  nanoseconds for each byte of a store that is checked
+host bring SHEETS [SEED]          so many sheets brought into a store and read back";
 
 fn main() -> ExitCode {
     let words: Vec<String> = std::env::args().skip(1).collect();
-    let words: Vec<&str> = words.iter().map(String::as_str).collect();
-    let done = match words[..] {
-        ["judge", damaged, valid] => judge(damaged, valid, "0"),
-        ["judge", damaged, valid, seed] => judge(damaged, valid, seed),
-        ["speed"] => {
-            speed::run();
-            Ok(true)
-        }
-        _ => Err(USAGE.to_string()),
-    };
-    match done {
+    match run(&words.iter().map(String::as_str).collect::<Vec<_>>()) {
         Ok(true) => ExitCode::SUCCESS,
         Ok(false) => ExitCode::from(1),
         Err(why) => {
@@ -31,7 +28,31 @@ fn main() -> ExitCode {
     }
 }
 
-fn judge(damaged: &str, valid: &str, seed: &str) -> Result<bool, String> {
-    let number = |word: &str| word.parse::<u64>().map_err(|_| format!("'{word}' is no number"));
-    Ok(compare::run(number(damaged)?, number(valid)?, number(seed)?))
+/// Runs a command; whether all was as it should be.
+fn run(words: &[&str]) -> Result<bool, String> {
+    let numbers = |from: usize| words[from..].iter().map(|word| number(word)).collect::<Result<Vec<u64>, _>>();
+    match words {
+        ["judge", _, _] | ["judge", _, _, _] => {
+            let numbers = numbers(1)?;
+            Ok(compare::run(numbers[0], numbers[1], numbers.get(2).copied().unwrap_or(0)))
+        }
+        ["speed"] => {
+            speed::run();
+            Ok(true)
+        }
+        ["store", _, _] | ["store", _, _, _] => {
+            let numbers = numbers(1)?;
+            Ok(store::runs::run(numbers[0], numbers[1], numbers.get(2).copied().unwrap_or(0)))
+        }
+        ["store-speed"] => store::speed::run().map(|()| true),
+        ["bring", _] | ["bring", _, _] => {
+            let numbers = numbers(1)?;
+            Ok(store::bring::run(numbers[0], numbers.get(1).copied().unwrap_or(0)))
+        }
+        _ => Err(USAGE.to_string()),
+    }
+}
+
+fn number(word: &str) -> Result<u64, String> {
+    word.parse().map_err(|_| format!("'{word}' is no number"))
 }

@@ -54,7 +54,7 @@ fn least(bytes: &[u8], mut work: impl FnMut(&[u8]) -> u64) -> f64 {
 
 /// The sum of the bytes, in a function of its own, so that its machine code can be looked at.
 #[inline(never)]
-fn plain_sum(bytes: &[u8]) -> u64 {
+pub fn plain_sum(bytes: &[u8]) -> u64 {
     let mut sum = 0;
     for &byte in bytes {
         sum += u64::from(byte);

@@ -1,1 +1,2 @@
 pub mod Drive
+pub mod Stores

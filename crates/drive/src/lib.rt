@@ -1,11 +1,38 @@
-// Calls for differential runs: a host links the static library and judges many sheets in one process.
+// Calls for differential runs: a host links the static library, judges many sheets in one process, and
+// fills stores and has them checked.
 //
 // They serve until there is a load that tells a refusal itself, and go away with it. Every argument
 // is allowed, since a host promises nothing.
 ghost use mathlib.Core.Path.{_≡_};
 ghost use Rattle.spec.specs.Tree.{judge};
 ghost use Rattle.drive.specs.Drive.{numberOf, wordOf, replyWith};
+
+mod bring;
+mod keeps;
+mod stores;
+
+pub use bring::drive_bring;
+pub use keeps::drive_answer;
+pub use keeps::drive_ended;
+pub use keeps::drive_enter;
+pub use keeps::drive_place;
+pub use keeps::drive_reference;
+pub use keeps::drive_references;
+pub use keeps::drive_root;
+pub use keeps::drive_scope;
+pub use keeps::drive_scopes;
+pub use keeps::drive_with;
 use sheet::SheetRead;
+pub use stores::drive_clear;
+pub use stores::drive_condition;
+pub use stores::drive_duplicate;
+pub use stores::drive_entry;
+pub use stores::drive_expr;
+pub use stores::drive_hole;
+pub use stores::drive_name;
+pub use stores::drive_push;
+pub use stores::drive_text;
+pub use stores::drive_waiting;
 use words::put32;
 
 // The first word of the reply, where it has room for one.

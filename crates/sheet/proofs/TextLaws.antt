@@ -241,7 +241,7 @@ pub four-is : (s : List ℕ) (at v x y z w : ℕ) → x ≡ byteAt s at → y �
 unfolding fourMore
 four-is s at v x y z w a b c d = rw (a, b, c, d)
 
-length-decoded : (v : Text) → length (decoded v) ≡ length v / 2
+pub length-decoded : (v : Text) → length (decoded v) ≡ length v / 2
 unfolding decoded
 length-decoded [] = refl
 length-decoded (a ∷ []) = refl

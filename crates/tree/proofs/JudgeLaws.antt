@@ -19,7 +19,7 @@ use Rattle.sheet.proofs.LineLaws.{number-is, field-inside}
 use Rattle.sheet.specs.declared.position.Position.{Position}
 use Rattle.sheet.specs.declared.sheets.SheetRead.{SheetRead}
 use Rattle.sheet.specs.declared.sheets.SheetRead.the-variants.{Accepted, Refused}
-use Rattle.tree.proofs.Tests.{both-first}
+use Rattle.words.proofs.Tests.{both-first}
 use Rattle.tree.specs.Nodes.{nodesIn, Stands}
 use Rattle.tree.specs.Walk.{Walks}
 use Rattle.tree.specs.Judge.{Nodes, treeAnswer}

@@ -1,4 +1,3 @@
-pub mod Tests
 pub mod SlotLaws
 pub mod PlaceLaws
 pub mod NodeLaws

@@ -25,7 +25,7 @@ use Rattle.sheet.specs.Kids.{shortKids, kidsFrom, StepInside}
 use Rattle.sheet.proofs.KidLaws.{Before, walk-end, walk-malformed, walk-absent, walk-number}
 use Rattle.sheet.specs.declared.kids.KidStep.{KidStep}
 use Rattle.sheet.specs.declared.kids.KidStep.the-variants as step
-use Rattle.tree.proofs.Tests.{both-first}
+use Rattle.words.proofs.Tests.{both-first}
 use Rattle.tree.specs.Nodes.{nodesIn, Stands, kidsAt, Kids, Read, After, Stepped, Fewer, Passed}
 use Rattle.tree.specs.declared.nodes.Kid.{Kid}
 use Rattle.tree.specs.declared.nodes.Kid.the-variants.{End, Absent, Number}

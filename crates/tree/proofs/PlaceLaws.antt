@@ -22,7 +22,7 @@ use Rattle.tree.specs.declared.places.Places.{Places}
 use Rattle.tree.specs.declared.places.Place.{Place}
 use Rattle.tree.specs.declared.places.Place.the-variants as place
 use Rattle.tree.specs.declared.slots.Slot.{Slot}
-use Rattle.tree.proofs.Tests.{both-left, both-right, or-second, allUpTo, at-number, NoneOf, someKey, no-key, AtKeys, at-key}
+use Rattle.words.proofs.Tests.{both-left, both-right, or-second, allUpTo, at-number, NoneOf, someKey, no-key, AtKeys, at-key}
 
 -- these are the places of the kind with the number
 abbrev pub Has : Counted → Listed → ℕ → Type 0

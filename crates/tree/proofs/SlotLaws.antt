@@ -11,7 +11,7 @@ use Rattle.spec.specs.Kinds.{takes}
 use Rattle.tree.specs.Slots.{slotOf, slotNumber, stringTaken}
 use Rattle.tree.specs.declared.slots.Slot.{Slot}
 use Rattle.tree.specs.declared.slots.Slot.the-variants.{Expression, Path, Attribute, Entry, Part, Parameter, From, Ident, Bind, PatternEntry}
-use Rattle.tree.proofs.Tests.{or-second, allUpTo, at-number, NoneOf, someKey, no-key}
+use Rattle.words.proofs.Tests.{or-second, allUpTo, at-number, NoneOf, someKey, no-key}
 
 abbrev same : Bool → Bool → Bool
 same true b = b

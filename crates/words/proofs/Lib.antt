@@ -4,3 +4,4 @@ pub mod EqualityLaws
 pub mod OrderLaws
 mod CompareLoops
 mod CopyLoops
+pub mod Tests

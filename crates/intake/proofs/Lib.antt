@@ -1,0 +1,8 @@
+pub mod TextLaws
+pub mod NodeLaws
+pub mod WithinLaws
+pub mod BringKidLaws
+pub mod BringTextLaws
+pub mod BringRowLaws
+pub mod SheetPlaces
+pub mod BringLaws

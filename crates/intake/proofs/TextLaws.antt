@@ -1,0 +1,55 @@
+-- Where a text lies, and what is read of it there. Assumes nothing.
+use mathlib.Core.Path.{_≡_, sym, ap, _∙_}
+use mathlib.Core.List.{List, []}
+use Prim.Native.Nat.{ℕ, _+_, _-_, _≤_, _<_}
+use native.Mathlib.Omega.{arith}
+use lib.ListN.{length, getD, List·getD-eq-default}
+use borrow.Author.Tests.{le-leb, lt-leb}
+use Rattle.words.specs.Runs.{run}
+use Rattle.words.specs.Words.{word}
+use Rattle.words.proofs.RunLaws.{length-run, getD-run, run-none}
+use Rattle.layout.specs.Layout.{Long, textsAt, textLimit}
+use Rattle.layout.specs.Texts.{textOf, textIn}
+use Rattle.intake.specs.TextReads.{Lies}
+
+-- ---- where it lies
+module _ (s : List ℕ) (k : ℕ) where
+  pub text-in : k + 4 + word s (textsAt + k) ≤ textLimit → textIn s k ≡ run s (textsAt + k + 4) (word s (textsAt + k))
+  unfolding textIn textOf
+  text-in h = rw (le-leb (k + 4 + word s (textsAt + k)) textLimit h)
+
+  pub text-out : textLimit < k + 4 + word s (textsAt + k) → textIn s k ≡ []
+  unfolding textIn textOf
+  text-out h = rw (lt-leb (k + 4 + word s (textsAt + k)) textLimit h)
+
+  nowhere : textIn s k ≡ [] → Lies s k 0 0
+  nowhere e = record { inside = omega arith; short = omega arith; same = e ∙ sym (run-none s 0 0 0 (omega arith)) }
+
+  pub lies-past : 786428 < k → Lies s k 0 0
+  lies-past h = nowhere (text-out (omega arith))
+
+  module _ (n : ℕ) (e : n ≡ word s (textsAt + k)) (l : k ≤ 786428) where
+    pub lies-beyond : 786428 - k < n → Lies s k 0 0
+    lies-beyond h = nowhere (text-out (omega arith))
+
+    pub lies-there : Long s → n ≤ 786428 - k → Lies s k (3162240 + k + 4) n
+    lies-there long h = record { inside = omega arith; short = omega arith; same = rw e (text-in (omega arith)) }
+
+-- ---- what is read of it
+module _ {s : List ℕ} {k at n : ℕ} (x : Lies s k at n) where
+  pub lies-length : n ≡ length (textIn s k)
+  lies-length = sym (ap length (x .same) ∙ length-run s at n (x .inside))
+
+  pub lies-byte : (i : ℕ) → i < n → getD s (at + i) 0 ≡ getD (textIn s k) i 0
+  lies-byte i h = sym (ap (λ (t : List ℕ). getD t i 0) (x .same) ∙ getD-run s at n i h)
+
+  pub lies-end : (i : ℕ) → n ≤ i → 0 ≡ getD (textIn s k) i 0
+  lies-end i h = sym (List·getD-eq-default (textIn s k) 0 (omega (arith, lies-length)))
+
+-- ---- two texts, or a text and bytes, compared
+module _ {R : Type 0} (f : List ℕ → List ℕ → R) {s : List ℕ} {k at n : ℕ} (x : Lies s k at n) where
+  pub lies-with : {r : R} {t : List ℕ} → r ≡ f (run s at n) t → r ≡ f (textIn s k) t
+  lies-with e = rw (x .same) e
+
+  pub lies-both : {r : R} {l bt m : ℕ} → Lies s l bt m → r ≡ f (run s at n) (run s bt m) → r ≡ f (textIn s k) (textIn s l)
+  lies-both y e = rw (x .same, y .same) e

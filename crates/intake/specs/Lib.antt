@@ -1,0 +1,3 @@
+pub mod TextReads
+pub mod NodeReads
+pub mod Bring

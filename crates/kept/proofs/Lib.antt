@@ -1,0 +1,10 @@
+pub mod ScopeReads
+pub mod HoldingLaws
+pub mod ScopeLaws
+pub mod KeepFrames
+pub mod AnswerLaws
+pub mod ReferenceLaws
+pub mod ChangedTextLaws
+pub mod ChangeLaws
+pub mod TextFrames
+pub mod WalkSteps

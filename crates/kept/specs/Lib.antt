@@ -1,0 +1,4 @@
+pub mod Walks
+pub mod Answers
+pub mod References
+pub mod TextChanges

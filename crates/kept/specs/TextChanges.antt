@@ -1,0 +1,61 @@
+-- Changes of texts in a store: a text that is added, a text that a name or a Reference gets, and the change room that is spent.
+use mathlib.Core.Path.{_≡_}
+use mathlib.Core.Bool.{Bool, true}
+use mathlib.Core.List.{List, [], _∷_}
+use mathlib.Core.Option.{Option, none, some}
+use Prim.Native.Nat.{ℕ, _+_, _≤_}
+use lib.ListN.{length}
+use Rattle.words.specs.Words.{word}
+use Rattle.spec.specs.Basics.{Text, ExprId, NameId}
+use Rattle.spec.specs.Module.{Module}
+use Rattle.spec.specs.Scopes.{exprAt}
+use Rattle.spec.specs.Answer.{referenceText}
+use Rattle.spec.specs.Calls.{setName, setReference}
+use Rattle.spec.specs.Kept.{Kept}
+use Rattle.layout.specs.Layout.{textsPlace, textLimit}
+use Rattle.layout.specs.Changes.{Range, Wrote, Still}
+use Rattle.layout.specs.Texts.{textIn}
+use Rattle.layout.specs.States.{moduleIn}
+use Rattle.layout.specs.Keeps.{keptIn}
+use Rattle.soundness.specs.Sound.{textFits, sound}
+
+-- how many bytes of the texts are in use, and the texts
+unfoldable pub texting : List Range
+texting = (28, 32) ∷ (3162240, 3948672) ∷ []
+
+-- The text with the number k is `bytes`, if there is room for it; every text that was there is as it was, and so is all that a sound store keeps.
+pub record Texted (bytes : Text) (s : List ℕ) (k : ℕ) (t : List ℕ) : Type 0 where
+  pub wrote : Wrote texting s t
+  pub is : word s textsPlace + 4 + length bytes ≤ textLimit → (textIn t k ≡ bytes) × (textFits t k ≡ true)
+  pub others : (j : ℕ) → textFits s j ≡ true → (textIn t j ≡ textIn s j) × (textFits t j ≡ true)
+  pub kept : sound s ≡ true → keptIn t ≡ keptIn s
+
+unfoldable pub withModule : Module → Kept → Kept
+withModule m k = record { lowered = m; scopes = k .scopes; answers = k .answers; references = k .references; spent = k .spent }
+
+-- The name x has the text with the number k, and nothing else is another.
+pub record Renamed (x : NameId) (k : ℕ) (s t : List ℕ) : Type 0 where
+  pub wrote : Wrote ((917588, 950356) ∷ []) s t
+  pub still : Still s t
+  pub does : keptIn t ≡ withModule (setName x (textIn s k) (moduleIn s)) (keptIn s)
+
+-- one of two modules, by whether there is a text
+unfoldable pub whereText : Option Text → Module → Module → Module
+whereText none a b = b
+whereText (some t) a b = a
+
+-- of a Reference alone
+unfoldable pub setIfReference : ExprId → Text → Module → Module
+setIfReference e t m = whereText (referenceText (exprAt m e)) (setReference e t m) m
+
+-- The Reference e has the text with the number k, and nothing else is another.
+pub record Reworded (e : ExprId) (k : ℕ) (s t : List ℕ) : Type 0 where
+  pub wrote : Wrote ((64, 327764) ∷ []) s t
+  pub still : Still s t
+  pub does : keptIn t ≡ withModule (setIfReference e (textIn s k) (moduleIn s)) (keptIn s)
+
+-- So much of the change room is spent, and nothing else is another.
+pub record Spent (n : ℕ) (s t : List ℕ) : Type 0 where
+  pub wrote : Wrote ((24, 28) ∷ []) s t
+  pub still : Still s t
+  pub does : keptIn t ≡ record { lowered = keptIn s .lowered; scopes = keptIn s .scopes; answers = keptIn s .answers; references = keptIn s .references; spent = n }

@@ -1,0 +1,15 @@
+-- Texts: a text's number is the place in the region of the texts where its length stands, and its bytes follow.
+use mathlib.Core.List.{List, []}
+use Prim.Native.Nat.{ℕ, _+_}
+use lib.Dec.{leb}
+use Rattle.words.specs.Runs.{run}
+use Rattle.words.specs.Words.{word}
+use Rattle.spec.specs.Basics.{Text, if_then_else_}
+use Rattle.layout.specs.Layout.{textsAt, textLimit}
+
+-- what does not lie in the region is the empty text
+unfoldable pub textOf : List ℕ → ℕ → ℕ → Text
+textOf s k n = if leb (k + 4 + n) textLimit then run s (textsAt + k + 4) n else []
+
+unfoldable pub textIn : List ℕ → ℕ → Text
+textIn s k = textOf s k (word s (textsAt + k))

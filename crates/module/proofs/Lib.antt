@@ -1,0 +1,3 @@
+pub mod KindLaws
+pub mod LiteralLaws
+pub mod CounterLaws

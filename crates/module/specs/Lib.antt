@@ -1,0 +1,3 @@
+pub mod Ids
+pub mod Kinds
+pub mod Literals

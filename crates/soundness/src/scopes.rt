@@ -1,0 +1,70 @@
+// Scopes: a parent numbered below its child, a With among the expressions, and the names that each
+// scope enters among the names.
+ghost use mathlib.Core.Path.{_≡_};
+ghost use mathlib.Core.Bool.{_&&_};
+ghost use Prim.Native.Nat.{_+_, _*_, _<_, _≤_};
+ghost use Rattle.words.specs.Words.{word};
+ghost use Rattle.layout.specs.Layout.{enteredAt, nameLimit};
+ghost use Rattle.layout.specs.Keeps.{firstEntered};
+ghost use Rattle.soundness.specs.Sound.{allTo, nameFits, scopeFits, scopesFit};
+ghost use Rattle.soundness.specs.SoundCounts.{Counted};
+use crate::counts::Counts;
+use crate::firsts::firsts_ascend;
+use words::get32;
+
+const SCOPES: usize = 2441300;
+
+const ENTERED: usize = 2490464;
+
+const ENTERED_LIMIT: u32 = 4096;
+
+// Parent and With stand one too high, with 0 for none.
+fn scope_fits(store: &[u8], counts: Counts, i: u32) -> bool
+    requires { ⌜ Counted (now store) counts × (i < counts .scopes) ⌝ }
+    ensures { λ r. ⌜ r ≡ scopeFits (now (store .entry)) i ⌝ }
+{
+    let at = SCOPES + 12 * (i as usize);
+    (get32(store, at + 4) <= i) & (get32(store, at + 8) <= counts.exprs)
+}
+
+fn scope_rows_fit(store: &[u8], counts: Counts) -> bool
+    requires { ⌜ Counted (now store) counts ⌝ }
+    ensures { λ r. ⌜ r ≡ allTo (scopeFits (now (store .entry))) (counts .scopes) ⌝ }
+{
+    let n = counts.scopes;
+    let mut i = 0;
+    while i < n {
+        if !scope_fits(store, counts, i) {
+            return false;
+        }
+        i += 1;
+    }
+    true
+}
+
+fn entered_fit(store: &[u8], counts: Counts, n: u32) -> bool
+    requires { ⌜ Counted (now store) counts × (n ≤ nameLimit) ⌝ }
+    ensures { λ r. ⌜ r ≡ allTo (λ j. nameFits (now (store .entry)) (word (now (store .entry)) (enteredAt + 4 * j))) n ⌝ }
+{
+    let names = counts.names;
+    let mut j = 0;
+    while j < n {
+        if names <= get32(store, ENTERED + 4 * (j as usize)) {
+            return false;
+        }
+        j += 1;
+    }
+    true
+}
+
+pub fn scopes_fit(store: &[u8], counts: Counts) -> bool
+    requires { ⌜ Counted (now store) counts ⌝ }
+    ensures { λ r. ⌜ r ≡ scopesFit (now (store .entry)) ⌝ }
+{
+    let n = counts.scopes;
+    if !firsts_ascend(store, SCOPES, 12, n, ENTERED_LIMIT) {
+        return false;
+    }
+    let entered = get32(store, SCOPES + 12 * (n as usize));
+    scope_rows_fit(store, counts) && entered_fit(store, counts, entered)
+}

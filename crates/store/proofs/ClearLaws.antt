@@ -1,0 +1,87 @@
+-- A store that was emptied. Assumes nothing.
+use mathlib.Core.Path.{_≡_, refl, _∙_}
+use mathlib.Core.Logic.{_⊎_, inl, inr, ⊎-elim}
+use mathlib.Core.List.{List, [], _∷_}
+use Prim.Native.Nat.{ℕ, zero, suc, _+_, _*_, _≤_, _<_}
+use native.Mathlib.Omega.{arith}
+use lib.ListN.{length, getD}
+use Rattle.words.specs.Words.{word, setWord}
+use Rattle.words.proofs.WordLaws.{length-setWord, word-setWord-same, word-setWord-other}
+use Rattle.spec.specs.State.{empty}
+use Rattle.layout.specs.Layout.{Long, sheetAt, exprCount, exprLimit}
+use Rattle.layout.specs.Rows.{cap, rowsTo, setAll}
+use Rattle.layout.specs.Changes.{Outside, Wrote, Still}
+use Rattle.layout.specs.Exprs.{firstItem}
+use Rattle.layout.specs.States.{exprsOf, namesOf, diagnosticsOf, lostOf, setsOf, entriesOf, stateOf, waitingOf, usedOf}
+use Rattle.store.specs.Work.{workOf, noWork, clearing, Fine, Cleared}
+use Rattle.layout.proofs.RowLaws.{cap-le}
+use Rattle.layout.proofs.WriteLaws.{still-setWord, still-all, still-then, Small, length-all, all-other, all-at}
+
+abbrev zeros : List ℕ
+zeros = 0 ∷ 0 ∷ 0 ∷ 0 ∷ 0 ∷ []
+
+small : Small zeros
+small = (omega arith, (omega arith, (omega arith, (omega arith, (omega arith, tt)))))
+
+zero-in : (i : ℕ) → getD zeros i 0 ≡ 0
+zero-in zero = refl
+zero-in (suc zero) = refl
+zero-in (suc (suc zero)) = refl
+zero-in (suc (suc (suc zero))) = refl
+zero-in (suc (suc (suc (suc zero)))) = refl
+zero-in (suc (suc (suc (suc (suc i))))) = refl
+
+zero-at : (s : List ℕ) (at i j : ℕ) → i < 5 → j ≡ at + 4 * i → at + 20 ≤ length s → word (setAll s at zeros) j ≡ 0
+zero-at s at i j h q l = all-at s at zeros small (omega arith) i j h q ∙ zero-in i
+
+-- with no row in use
+work-none : (t : List ℕ) → word t 0 ≡ 0 → word t 4 ≡ 0 → word t 8 ≡ 0 → word t 12 ≡ 0 → word t 32 ≡ 0 → word t 36 ≡ 0 → word t 40 ≡ 0 → word t 64 ≡ 0 → workOf t ≡ noWork
+unfolding workOf noWork stateOf exprsOf namesOf diagnosticsOf lostOf setsOf entriesOf waitingOf usedOf firstItem cap rowsTo
+work-none t a b c d e f g h = rw (a, b, c, d, e, f, g, h)
+
+fine-none : (t : List ℕ) → word t 0 ≡ 0 → word t 64 ≡ 0 → Fine t
+unfolding usedOf firstItem cap
+fine-none t a h = record { few = rw (a, h) (omega arith); below = λ e k. absurd (let z : e < 0 = rw a at k in omega arith) }
+
+pub cleared : (s a b c d e t : List ℕ) → Long s → a ≡ setAll s 0 zeros → b ≡ setAll a 20 zeros → c ≡ setWord b 40 0 → d ≡ setWord c 64 0 → e ≡ setWord d 2441300 0 → t ≡ setWord e 2506848 0 → Cleared s t
+unfolding Outside clearing
+cleared s a b c d e t long ea eb ec ed ee et =
+    let la : length a ≡ length s = rw ea (length-all s 0 zeros) in
+    let lb : length b ≡ length a = rw eb (length-all a 20 zeros) in
+    let lc : length c ≡ length b = rw ec (length-setWord b 40 0) in
+    let ld : length d ≡ length c = rw ed (length-setWord c 64 0) in
+    let le : length e ≡ length d = rw ee (length-setWord d 2441300 0) in
+    let lt : length t ≡ length e = rw et (length-setWord e 2506848 0) in
+    -- the words below 44 are those of c, and so are all but three
+    let late : (j : ℕ) → (j + 4 ≤ 64) ⊎ (68 ≤ j) → (j + 4 ≤ 2441300) ⊎ (2441304 ≤ j) → (j + 4 ≤ 2506848) ⊎ (2506852 ≤ j) → word t j ≡ word c j = λ j x y z.
+    rw et (word-setWord-other e 2506848 0 j z ∙ rw ee (word-setWord-other d 2441300 0 j y ∙ rw ed (word-setWord-other c 64 0 j x))) in
+    let low : (j : ℕ) → j + 4 ≤ 44 → word t j ≡ word c j = λ j h. late j (inl (omega arith)) (inl (omega arith)) (inl (omega arith)) in
+    let first : (i j : ℕ) → i < 5 → j ≡ 0 + 4 * i → word t j ≡ 0 = λ i j h q. low j (omega arith) ∙ rw ec (word-setWord-other b 40 0 j (inl (omega arith)) ∙ rw eb (all-other a 20 zeros j (inl (omega arith)) ∙ rw ea (zero-at s 0 i j h q (omega arith)))) in
+    let second : (i j : ℕ) → i < 5 → j ≡ 20 + 4 * i → word t j ≡ 0 = λ i j h q. low j (omega arith) ∙ rw ec (word-setWord-other b 40 0 j (inl (omega arith)) ∙ rw eb (zero-at a 20 i j h q (omega arith))) in
+    let w40 : word t 40 ≡ 0 = low 40 (omega arith) ∙ rw ec (word-setWord-same b 40 0 (omega arith) (omega arith)) in
+    let w64 : word t 64 ≡ 0 = rw et (word-setWord-other e 2506848 0 64 (inl (omega arith)) ∙ rw ee (word-setWord-other d 2441300 0 64 (inl (omega arith)) ∙ rw ed (word-setWord-same c 64 0 (omega arith) (omega arith)))) in
+    record {
+      wrote = record {
+        size = lt ∙ le ∙ ld ∙ lc ∙ lb ∙ la;
+        other = λ j o.
+            late j (o .1 .0) (o .1 .1 .0) (o .1 .1 .1 .0)
+            ∙ rw ec (word-setWord-other b 40 0 j (⊎-elim (λ z. inl (omega arith)) (λ z. inr (omega arith)) (o .0))
+            ∙ rw eb (all-other a 20 zeros j (⊎-elim (λ z. inl (omega arith)) (λ z. inr (omega arith)) (o .0))
+            ∙ rw ea (all-other s 0 zeros j (⊎-elim (λ z. absurd (omega arith)) (λ z. inr (omega arith)) (o .0)))));
+      };
+      still =
+          still-then {u = a} (rw ea (still-all s 0 zeros (omega arith)))
+          (still-then {u = b} (rw eb (still-all a 20 zeros (omega arith)))
+          (still-then {u = c} (rw ec (still-setWord b 40 0 (omega arith)))
+          (still-then {u = d} (rw ed (still-setWord c 64 0 (omega arith)))
+          (still-then {u = e} (rw ee (still-setWord d 2441300 0 (omega arith)))
+          (rw et (still-setWord e 2506848 0 (omega arith)))))));
+      work = work-none t (first 0 0 (omega arith) (omega arith)) (first 1 4 (omega arith) (omega arith)) (first 2 8 (omega arith) (omega arith)) (first 3 12 (omega arith) (omega arith)) (second 3 32 (omega arith) (omega arith)) (second 4 36 (omega arith) (omega arith)) w40 w64;
+      fine = fine-none t (first 0 0 (omega arith) (omega arith)) w64;
+      entry = first 4 16 (omega arith) (omega arith);
+      scopes = second 0 20 (omega arith) (omega arith);
+      spent = second 1 24 (omega arith) (omega arith);
+      texts = second 2 28 (omega arith) (omega arith);
+      first-entered = rw et (word-setWord-other e 2506848 0 2441300 (inl (omega arith)) ∙ rw ee (word-setWord-same d 2441300 0 (omega arith) (omega arith)));
+      first-reference = rw et (word-setWord-same e 2506848 0 (omega arith) (omega arith));
+    }

@@ -1,0 +1,447 @@
+-- What appending items and expressions does to the work. Assumes nothing.
+use mathlib.Core.Path.{_≡_, refl, sym, ap, _∙_}
+use mathlib.Core.Logic.{_⊎_, inl, inr, ⊎-elim}
+use mathlib.Core.Bool.{Bool, true, false, _&&_}
+use mathlib.Core.List.{List, [], _∷_, _++_}
+use mathlib.Core.Option.{Option, none, some}
+use Prim.Native.Nat.{ℕ, zero, suc, _+_, _-_, _*_, _≤_, _<_, _^_}
+use native.Mathlib.Omega.{arith}
+use lib.ListN.{length, getD, take, drop, length-drop}
+use lib.Seq.{take-all, drop-nil}
+use lib.Dec.{ltb, leb, eqb}
+use borrow.Author.Tests.{lt-ltb, le-ltb, le-leb, lt-leb, ltb-true, ltb-false, leb-true, leb-false}
+use Rattle.words.specs.Order.{pick}
+use Rattle.words.specs.Runs.{run, splice}
+use Rattle.words.specs.Words.{word, setWord}
+use Rattle.words.proofs.RunLaws.{length-splice, length-run}
+use Rattle.words.proofs.WordLaws.{length-setWord, word-setWord-same, word-setWord-other, word-splice-other, word-splice-within, word-run}
+use Rattle.spec.proofs.BoolLaws.{differ}
+use Rattle.spec.specs.Module.{Pointer, Made}
+use Rattle.spec.specs.Steps.{Step}
+use Rattle.spec.specs.State.{State, state, newMade}
+use Rattle.module.specs.Ids.{pointerOf}
+use Rattle.module.specs.declared.pointer.Pointer as code
+use Rattle.store.specs.declared.codes.Row.{Row}
+use Rattle.store.specs.declared.codes.ItemRow.{ItemRow}
+use Rattle.layout.specs.Layout.{Long, exprCount, waitingCount, exprsAt, exprPointersAt, itemsAt, waitingAt, namesAt, sheetAt, exprLimit, itemLimit, waitingLimit}
+use Rattle.layout.specs.Rows.{cap, rowsTo, rowsFrom, setAll}
+use Rattle.layout.specs.Changes.{Range, Outside, Wrote, Still}
+use Rattle.layout.specs.Texts.{textIn}
+use Rattle.layout.specs.Exprs.{Item, itemOf, itemAt, itemIn, exprOf, pointerAt, pointerOr, firstItem, itemsOf, sortOf, madeIn}
+use Rattle.layout.specs.States.{exprsOf, namesOf, diagnosticsOf, lostOf, setsOf, entriesOf, stateOf, waitingOf, usedOf}
+use Rattle.module.specs.declared.expr.Expr.{Expr}
+use Rattle.store.specs.Codes.{rowMade, exprMade, holeMade, Says}
+use Rattle.store.specs.Work.{Work, workOf, takeRow, takeLone, pushItem, lowering, Fine, Did, Took, PutRow}
+use Rattle.layout.proofs.RowLaws.{rows-same, length-rows, rows-take, rows-drop, between-same, cap-le, cap-over, cap-lim}
+use Rattle.layout.proofs.Frames.{Same, apart, same-on, wrote-then, run-still, text-still, pointer-same, item-same, items-same, made-same, own-items-same, number-kept, exprs-kept, names-kept, diagnostics-kept, lost-kept, sets-kept, entries-kept, waiting-kept}
+use Rattle.layout.proofs.WriteLaws.{still-splice, still-setWord, still-all, still-then, Small, length-all, all-other, all-is, all-at}
+
+-- ---- counts
+pub length-waiting : (s : List ℕ) → length (waitingOf s) ≡ cap (word s waitingCount) waitingLimit
+unfolding waitingOf
+length-waiting s = length-rows (λ i. itemAt s (waitingAt + 12 * i)) (cap (word s waitingCount) waitingLimit)
+
+pub waiting-few : (s : List ℕ) (n : ℕ) → n ≡ word s waitingCount → n ≤ waitingLimit → n ≡ length (waitingOf s)
+waiting-few s n e h = sym (length-waiting s ∙ rw (← e) (cap-le n waitingLimit h))
+
+pub waiting-over : (s : List ℕ) (n : ℕ) → n ≡ word s waitingCount → waitingLimit < n → 16384 ≡ length (waitingOf s)
+waiting-over s n e h = sym (length-waiting s ∙ rw (← e) (cap-over n waitingLimit (omega arith)))
+
+pub from-some : (s : List ℕ) (base n : ℕ) → n ≡ length (waitingOf s) → base < n → (n - base ≡ length (drop base (waitingOf s))) × (n - base ≤ 16384)
+from-some s base n e h = (rw (length-drop base (waitingOf s)) (rw e), omega (arith, length-waiting s, cap-lim (word s waitingCount) waitingLimit))
+
+pub from-none : (s : List ℕ) (base n : ℕ) → n ≡ length (waitingOf s) → n ≤ base → (0 ≡ length (drop base (waitingOf s))) × (0 ≤ 16384)
+from-none s base n e h = (rw (length-drop base (waitingOf s)) (omega arith), omega arith)
+
+pub length-exprs : (s : List ℕ) → length (exprsOf s) ≡ cap (word s exprCount) exprLimit
+unfolding exprsOf
+length-exprs s = length-rows (madeIn s) (cap (word s exprCount) exprLimit)
+
+-- ---- items that are put in use
+-- a row that was moved
+item-moved : (s t : List ℕ) (at to : ℕ) → Still s t → word t to ≡ word s at → word t (to + 4) ≡ word s (at + 4) → word t (to + 8) ≡ word s (at + 8) → itemAt t to ≡ itemAt s at
+unfolding itemAt itemOf
+item-moved s t at to e a b c = rw (a, b, c, text-still s t (word s (at + 4)) e)
+
+module _ (s u t : List ℕ) (base count first : ℕ) (long : Long s) (some-wait : 0 < count) (size : count ≡ length (drop base (waitingOf s))) (room : first + count ≤ 32768)
+    (moved : u ≡ splice s (itemsAt + 12 * first) (run s (waitingAt + 12 * base) (12 * count))) (cut : t ≡ setWord u 32 base) where
+  inside : (base + count ≡ length (waitingOf s)) × (base + count ≤ 16384)
+  inside =
+      let e = size ∙ length-drop base (waitingOf s) in
+      let l = length-waiting s in
+      let m = cap-lim (word s waitingCount) waitingLimit in
+      (omega arith, omega arith)
+
+  run-size : length (run s (waitingAt + 12 * base) (12 * count)) ≡ 12 * count
+  run-size = length-run s (waitingAt + 12 * base) (12 * count) (omega (arith, inside .1))
+
+  moved-other : (j : ℕ) → (j + 4 ≤ itemsAt + 12 * first) ⊎ (itemsAt + 12 * (first + count) ≤ j) → word u j ≡ word s j
+  moved-other j o = rw moved (word-splice-other s (itemsAt + 12 * first) (run s (waitingAt + 12 * base) (12 * count)) j (⊎-elim (λ z. inl z) (λ z. inr (omega (arith, run-size))) o))
+
+  moved-is : (i : ℕ) → i + 4 ≤ 12 * count → word u (itemsAt + 12 * first + i) ≡ word s (waitingAt + 12 * base + i)
+  moved-is i h =
+      rw moved (word-splice-within s (itemsAt + 12 * first) (run s (waitingAt + 12 * base) (12 * count)) i (omega (arith, run-size)) (omega (arith, run-size))
+      ∙ word-run s (waitingAt + 12 * base) (12 * count) i (omega (arith, inside .1)) h)
+
+  took-wrote : Wrote ((32, 36) ∷ (itemsAt + 12 * first, itemsAt + 12 * (first + count)) ∷ []) s t
+  unfolding Outside
+  took-wrote = record {
+    size = rw (cut, length-setWord u 32 base, moved) (length-splice s (itemsAt + 12 * first) (run s (waitingAt + 12 * base) (12 * count)));
+    other = λ j o. rw cut (word-setWord-other u 32 base j (⊎-elim (λ z. inl z) (λ z. inr z) (o .0)) ∙ moved-other j (o .1 .0));
+  }
+
+  took-still : Still s t
+  took-still = rw cut (still-then {u = u} (rw moved (still-splice s (itemsAt + 12 * first) (run s (waitingAt + 12 * base) (12 * count)) (omega (arith, run-size)))) (still-setWord u 32 base (omega arith)))
+
+  took-word : (i to at : ℕ) → i + 4 ≤ 12 * count → to ≡ itemsAt + 12 * first + i → at ≡ waitingAt + 12 * base + i → word t to ≡ word s at
+  took-word i to at h p q = rw (cut, p, q) (word-setWord-other u 32 base (itemsAt + 12 * first + i) (inr (omega arith)) ∙ moved-is i h)
+
+  pub took-some : Took base count first s t
+  unfolding itemIn waitingOf Outside
+  took-some =
+      let l = length-waiting s in
+      let few : base ≤ cap (word s waitingCount) waitingLimit = omega (arith, inside .0, l) in
+      let n : word t 32 ≡ base = rw cut (word-setWord-same u 32 base (omega (arith, length-splice s (itemsAt + 12 * first) (run s (waitingAt + 12 * base) (12 * count)), ap length moved)) (omega (arith, inside .1))) in
+      record {
+        wrote = took-wrote;
+        still = took-still;
+        items = λ j h. item-moved s t (waitingAt + 12 * (base + j)) (itemsAt + 12 * (first + j)) took-still
+            (took-word (12 * j) _ _ (omega arith) (omega arith) (omega arith))
+            (took-word (12 * j + 4) _ _ (omega arith) (omega arith) (omega arith))
+            (took-word (12 * j + 8) _ _ (omega arith) (omega arith) (omega arith));
+        waiting = rw (n, cap-le base waitingLimit (omega (arith, inside .1))) (
+            rows-same (λ i. itemAt t (waitingAt + 12 * i)) (λ i. itemAt s (waitingAt + 12 * i)) base (λ i h. item-same s t (waitingAt + 12 * i) took-still (λ j p q. took-wrote .other j (inr (omega arith), (inr (omega arith), tt))))
+            ∙ sym (rows-take (λ i. itemAt s (waitingAt + 12 * i)) (cap (word s waitingCount) waitingLimit) base few));
+      }
+
+pub took-none : (s : List ℕ) (base count first : ℕ) → count ≤ 0 → count ≡ length (drop base (waitingOf s)) → Took base count first s s
+took-none s base count first h e = record {
+  wrote = record { size = refl; other = λ j o. refl };
+  still = record { same = refl };
+  items = λ j k. absurd (omega arith);
+  waiting = sym (take-all base (waitingOf s) (omega (arith, length-drop base (waitingOf s))));
+}
+
+-- ---- a row that is put
+pub row-put : (s u v t : List ℕ) (n end : ℕ) (r : Row) (p : code.Pointer) (at to : ℕ) → Long s → n < 16384 → end < 2 ^ 32 → Small (r .sort ∷ r .a ∷ r .b ∷ r .c ∷ []) → Small (p .kind ∷ p .from ∷ p .to ∷ []) → at ≡ exprsAt + 20 * n + 4 → to ≡ exprPointersAt + 12 * n
+    → u ≡ setAll s at (r .sort ∷ r .a ∷ r .b ∷ r .c ∷ end ∷ []) → v ≡ setAll u to (p .kind ∷ p .from ∷ p .to ∷ []) → t ≡ setWord v 0 (n + 1) → PutRow n end r (pointerOf p) s t
+unfolding Outside firstItem sortOf pointerAt pointerOf
+row-put s u v t n end r p at to long h he hr hp ea et eu ev ew =
+    let ws = r .sort ∷ r .a ∷ r .b ∷ r .c ∷ end ∷ [] in
+    let ps = p .kind ∷ p .from ∷ p .to ∷ [] in
+    let lu : length u ≡ length s = rw eu (length-all s at ws) in
+    let lv : length v ≡ length u = rw ev (length-all u to ps) in
+    let small : Small ws = (hr .0, (hr .1 .0, (hr .1 .1 .0, (hr .1 .1 .1 .0, (he, tt))))) in
+    let row : (i j : ℕ) → i < 5 → j ≡ at + 4 * i → word t j ≡ getD ws i 0 = λ i j k e.
+    rw ew (word-setWord-other v 0 (n + 1) j (inr (omega arith)) ∙ rw ev (all-other u to ps j (inl (omega arith)) ∙ rw eu (all-at s at ws small (omega arith) i j k e))) in
+    let ptr : (i j : ℕ) → i < 3 → j ≡ to + 4 * i → word t j ≡ getD ps i 0 = λ i j k e.
+    rw ew (word-setWord-other v 0 (n + 1) j (inr (omega arith)) ∙ rw ev (all-at u to ps hp (omega arith) i j k e)) in
+    record {
+      wrote = record {
+        size = rw ew (length-setWord v 0 (n + 1)) ∙ lv ∙ lu;
+        other = λ j o.
+            rw ew (word-setWord-other v 0 (n + 1) j (o .0)
+            ∙ rw ev (all-other u to ps j (⊎-elim (λ z. inl (omega arith)) (λ z. inr (omega arith)) (o .1 .1 .0))
+            ∙ rw eu (all-other s at ws j (⊎-elim (λ z. inl (omega arith)) (λ z. inr (omega arith)) (o .1 .0)))));
+      };
+      still = still-then {u = u} (rw eu (still-all s at ws (omega arith))) (still-then {u = v} (rw ev (still-all u to ps (omega arith))) (rw ew (still-setWord v 0 (n + 1) (omega arith))));
+      count = rw ew (word-setWord-same v 0 (n + 1) (omega arith) (omega arith));
+      next = row 4 (exprsAt + 20 * (n + 1)) (omega arith) (omega arith);
+      sort = row 0 (exprsAt + 20 * n + 4) (omega arith) (omega arith);
+      a = row 1 (exprsAt + 20 * n + 8) (omega arith) (omega arith);
+      b = row 2 (exprsAt + 20 * n + 12) (omega arith) (omega arith);
+      c = row 3 (exprsAt + 20 * n + 16) (omega arith) (omega arith);
+      pointer = rw (ptr 0 (exprPointersAt + 12 * n) (omega arith) (omega arith), ptr 1 (exprPointersAt + 12 * n + 4) (omega arith) (omega arith), ptr 2 (exprPointersAt + 12 * n + 8) (omega arith) (omega arith));
+    }
+
+-- ---- an expression that is appended
+drop-past : {A : Type 0} (xs : List A) (k : ℕ) → length xs ≤ k → drop k xs ≡ []
+drop-past [] k h = drop-nil k
+drop-past (x ∷ xs) zero h = absurd (omega arith)
+drop-past (x ∷ xs) (suc k) h = drop-past xs k (omega arith)
+
+-- the count, those that wait, and the tables of expressions, pointers and items
+abbrev own : List Range
+own = (0, 4) ∷ (32, 36) ∷ (64, 917588) ∷ []
+
+-- what is written for an expression belongs to lowering
+own-lowering : {s t : List ℕ} → Wrote own s t → Wrote lowering s t
+unfolding Outside lowering
+own-lowering w = record { size = w .size; other = λ j o. w .other j (⊎-elim (λ z. inl (omega arith)) (λ z. inr (omega arith)) (o .0), (⊎-elim (λ z. inl (omega arith)) (λ z. inr (omega arith)) (o .1 .0), (⊎-elim (λ z. inl (omega arith)) (λ z. inr (omega arith)) (o .1 .1 .0), tt))) }
+
+module _ (s u t : List ℕ) (base count first n : ℕ) (r : Row) (p : Pointer) (number : n ≡ word s exprCount) (few : n < 16384) (begins : first ≡ word s (exprsAt + 20 * n))
+    (size : count ≡ length (drop base (waitingOf s))) (room : first + count ≤ 32768) (took : Took base count first s u) (put : PutRow n (first + count) r p u t) where
+  alloc-wrote : Wrote own s t
+  unfolding Outside
+  alloc-wrote = record {
+    size = put .wrote .size ∙ took .wrote .size;
+    other = λ j o.
+        put .wrote .other j (o .0, (⊎-elim (λ z. inl (omega arith)) (λ z. inr (omega arith)) (o .1 .1 .0), (⊎-elim (λ z. inl (omega arith)) (λ z. inr (omega arith)) (o .1 .1 .0), tt)))
+        ∙ took .wrote .other j (o .1 .0, (⊎-elim (λ z. inl (omega arith)) (λ z. inr (omega arith)) (o .1 .1 .0), tt));
+  }
+
+  alloc-still : Still s t
+  alloc-still = still-then (took .still) (put .still)
+
+  expr-length : length (stateOf s .exprs) ≡ cap (word s exprCount) exprLimit
+  unfolding stateOf
+  expr-length = length-exprs s
+
+  put-coarse : Wrote ((0, 4) ∷ (64, 917588) ∷ []) u t
+  unfolding Outside
+  put-coarse = record {
+    size = put .wrote .size;
+    other = λ j o. put .wrote .other j (o .0, (⊎-elim (λ z. inl (omega arith)) (λ z. inr (omega arith)) (o .1 .0), (⊎-elim (λ z. inl (omega arith)) (λ z. inr (omega arith)) (o .1 .0), tt)));
+  }
+
+  counted : cap (word s exprCount) exprLimit ≡ n
+  counted = rw (← number) (cap-le n exprLimit (omega arith))
+
+  counted-after : cap (word t exprCount) exprLimit ≡ n + 1
+  counted-after = rw (put .count) (cap-le (n + 1) exprLimit (omega arith))
+
+  -- where the row's items begin stays, and so do all rows before it
+  rows-before : Same s t exprsAt (exprsAt + 20 * n + 4)
+  unfolding Outside
+  rows-before j a b = put .wrote .other j (inr (omega arith), (inl (omega arith), (inl (omega arith), tt))) ∙ took .wrote .other j (inr (omega arith), (inl (omega arith), tt))
+
+  pointers-before : Same s t exprPointersAt (exprPointersAt + 12 * n)
+  unfolding Outside
+  pointers-before j a b = put .wrote .other j (inr (omega arith), (inr (omega arith), (inl (omega arith), tt))) ∙ took .wrote .other j (inr (omega arith), (inl (omega arith), tt))
+
+  items-before : Same s t itemsAt (itemsAt + 12 * first)
+  unfolding Outside
+  items-before j a b = put .wrote .other j (inr (omega arith), (inr (omega arith), (inr (omega arith), tt))) ∙ took .wrote .other j (inr (omega arith), (inl (omega arith), tt))
+
+  -- the row's own items
+  item-kept : (k : ℕ) → k < count → itemIn t (first + k) ≡ itemIn u (first + k)
+  unfolding itemIn Outside
+  item-kept k h = item-same u t (itemsAt + 12 * (first + k)) (put .still) (λ j a b. put .wrote .other j (inr (omega arith), (inr (omega arith), (inr (omega arith), tt))))
+
+  -- what waits from `base` on: nothing, or all between it and the count
+  waits : (m : ℕ) → cap (word s waitingCount) waitingLimit ≡ m → drop base (waitingOf s) ≡ rowsTo (λ k. itemAt s (waitingAt + 12 * (base + k))) count
+  unfolding waitingOf rowsTo
+  waits m e =
+      let l = length-waiting s in
+      let d = length-drop base (waitingOf s) in
+      go (leb base m) refl (omega (arith, l, d))
+    where
+      go : (b : Bool) → leb base m ≡ b → count ≡ m - base → drop base (rowsTo (λ i. itemAt s (waitingAt + 12 * i)) (cap (word s waitingCount) waitingLimit)) ≡ rowsTo (λ k. itemAt s (waitingAt + 12 * (base + k))) count
+      go true h c =
+          let q = leb-true base m h in
+          let z : m ≡ base + count = omega arith in
+          rw (e, z) (rows-drop (λ i. itemAt s (waitingAt + 12 * i)) base count)
+      go false h c =
+          let q = leb-false base m h in
+          let z : count ≡ 0 = omega arith in
+          rw (e, z) (drop-past (rowsTo (λ i. itemAt s (waitingAt + 12 * i)) m) base (rw (length-rows (λ i. itemAt s (waitingAt + 12 * i)) m) (omega arith)))
+
+  items-own : itemsOf t n ≡ drop base (waitingOf s)
+  unfolding itemsOf firstItem rowsFrom
+  items-own =
+      let f : word t (exprsAt + 20 * n) ≡ first = rows-before (exprsAt + 20 * n) (omega arith) (omega arith) ∙ sym begins in
+      let g : word t (exprsAt + 20 * (n + 1)) ≡ first + count = put .next in
+      let z : first + count - first ≡ count = omega arith in
+      rw (f, g, cap-le first itemLimit (omega arith), cap-le (first + count) itemLimit room, z)
+      (rows-same (λ k. itemIn t (first + k)) (λ k. itemAt s (waitingAt + 12 * (base + k))) count (λ k h. item-kept k h ∙ took .items k h) ∙ sym (waits (cap (word s waitingCount) waitingLimit) refl))
+
+  made-own : madeIn t n ≡ rowMade s r p (drop base (waitingOf s))
+  unfolding madeIn rowMade exprOf
+  made-own = rw (put .sort, put .a, put .b, put .c, put .pointer, items-own, text-still s t (r .a) alloc-still)
+
+  -- the rows before it
+  first-kept : (i : ℕ) → i ≤ n → firstItem t i ≡ firstItem s i
+  unfolding firstItem
+  first-kept i h = rows-before (exprsAt + 20 * i) (omega arith) (omega arith)
+
+  first-last : firstItem s n ≡ first
+  unfolding firstItem
+  first-last = sym begins
+
+  used-is : usedOf s ≡ first
+  unfolding usedOf
+  used-is = rw (counted, first-last)
+
+  used-after : usedOf t ≡ first + count
+  unfolding usedOf
+  used-after = rw (counted-after, put .next)
+
+  module _ (fine : Fine s) where
+    first-below : (i : ℕ) → i ≤ n → firstItem s i ≤ first
+    first-below i h = go (ltb i n) refl
+      where
+        go : (b : Bool) → ltb i n ≡ b → firstItem s i ≤ first
+        go true e = let q = fine .below i (rw counted (ltb-true i n e)) in omega (arith, used-is)
+        go false e = let z : i ≡ n = omega (arith, ltb-false i n e) in rw z (omega (arith, first-last))
+
+    items-kept : (i : ℕ) → i < n → itemsOf t i ≡ itemsOf s i
+    unfolding itemsOf
+    items-kept i h =
+        let a = first-below (i + 1) (omega arith) in
+        let b = cap-le (firstItem s (i + 1)) itemLimit (omega arith) in
+        rw (first-kept i (omega arith), first-kept (i + 1) (omega arith), b) (items-same s t (cap (firstItem s i) itemLimit) (firstItem s (i + 1)) alloc-still (λ j p q. items-before j (omega arith) (omega arith)))
+
+    made-before : (i : ℕ) → i < n → madeIn t i ≡ madeIn s i
+    made-before i h = made-same s t i alloc-still (λ j a b. rows-before j (omega arith) (omega arith)) (λ j a b. pointers-before j (omega arith) (omega arith)) (items-kept i h)
+
+    exprs-more : exprsOf t ≡ exprsOf s ++ (rowMade s r p (drop base (waitingOf s)) ∷ [])
+    unfolding exprsOf rowsTo
+    exprs-more =
+        let e : n + 1 ≡ suc n = omega arith in
+        rw (counted-after, counted, e, made-own) (ap (λ l. l ++ (rowMade s r p (drop base (waitingOf s)) ∷ [])) (rows-same (madeIn t) (madeIn s) n made-before))
+
+    state-more : stateOf t ≡ newMade (rowMade s r p (drop base (waitingOf s))) (stateOf s) .1
+    unfolding stateOf newMade
+    state-more =
+        rw (
+          exprs-more,
+          names-kept alloc-wrote alloc-still refl refl,
+          diagnostics-kept alloc-wrote alloc-still refl refl,
+          lost-kept alloc-wrote refl refl,
+          sets-kept alloc-wrote refl refl,
+          entries-kept alloc-wrote alloc-still refl refl,
+        )
+
+    waiting-cut : waitingOf t ≡ take base (waitingOf s)
+    waiting-cut = waiting-kept put-coarse (put .still) refl refl ∙ took .waiting
+
+    fine-after : Fine t
+    fine-after = record {
+      few = rw used-after room;
+      below = λ i h. below-after i (rw counted-after at h) (leb i n) refl;
+    }
+      where
+        below-after : (i : ℕ) → i < n + 1 → (b : Bool) → leb i n ≡ b → firstItem t i ≤ usedOf t
+        below-after i h b e = let z = first-below i (omega arith) in rw (used-after, first-kept i (omega arith)) (omega arith)
+
+    pub alloc-is : (n, workOf t) ≡ takeRow (rowMade s r p) base (workOf s)
+    unfolding workOf takeRow
+    alloc-is =
+        let a : length (stateOf s .exprs) ≡ n = expr-length ∙ counted in
+        let l : ltb n exprLimit ≡ true = lt-ltb n exprLimit few in
+        let m : leb (first + count) itemLimit ≡ true = le-leb (first + count) itemLimit room in
+        rw (a, l, used-is, ← size, m, state-more, waiting-cut, used-after)
+
+  pub row-allocated : Did (takeRow (rowMade s r p) base) s n t
+  row-allocated = record { wrote = own-lowering alloc-wrote; still = alloc-still; does = λ fine. (alloc-is fine, fine-after fine) }
+
+-- ---- where there is no room
+pub fits-not : (a b : Bool) → (a ≡ false) ⊎ (b ≡ false) → a && b ≡ false
+fits-not true b (inl e) = differ e
+fits-not true b (inr e) = e
+fits-not false b o = refl
+
+pub nothing-done : {A : Type 0} {p : Step Work A} {s : List ℕ} {a : A} → (Fine s → (a, workOf s) ≡ p (workOf s)) → Did p s a s
+nothing-done h = record { wrote = record { size = refl; other = λ j o. refl }; still = record { same = refl }; does = λ fine. (h fine, fine) }
+
+pub row-full : (s : List ℕ) (make : List Item → Made) (base n : ℕ) → n ≡ word s exprCount → 16384 ≤ n → Did (takeRow make base) s 16384 s
+unfolding workOf takeRow stateOf
+row-full s make base n e h =
+    let a : ltb (length (exprsOf s)) exprLimit ≡ false = le-ltb (length (exprsOf s)) exprLimit (omega (arith, length-exprs s, cap-over (word s exprCount) exprLimit (omega arith))) in
+    nothing-done (λ fine. rw (fits-not (ltb (length (exprsOf s)) exprLimit) (leb (usedOf s + length (drop base (waitingOf s))) itemLimit) (inl a)))
+
+pub row-crowded : (s : List ℕ) (make : List Item → Made) (base n first count : ℕ) → n ≡ word s exprCount → n < 16384 → first ≡ word s (exprsAt + 20 * n) → count ≡ length (drop base (waitingOf s)) → 32768 < first + count → Did (takeRow make base) s 16384 s
+unfolding workOf takeRow usedOf firstItem
+row-crowded s make base n first count e h f c l =
+    let a : cap (word s exprCount) exprLimit ≡ n = rw (← e) (cap-le n exprLimit (omega arith)) in
+    let m : leb (first + count) itemLimit ≡ false = lt-leb (first + count) itemLimit l in
+    nothing-done (λ fine. rw (a, ← f, ← c, fits-not (ltb (length (stateOf s .exprs)) exprLimit) (leb (first + count) itemLimit) (inr m)))
+
+-- ---- steps that leave the expressions alone
+-- the count and the table stay, and so does what the invariant says
+pub fine-kept : {rs : List Range} {s t : List ℕ} → Wrote rs s t → apart (0, 4) rs ≡ true → apart (64, 327764) rs ≡ true → Fine s → Fine t
+unfolding usedOf firstItem
+fine-kept {s = s} {t = t} w a b fine =
+    let n = number-kept w exprCount a in
+    let v = same-on 64 327764 w b in
+    let l = cap-lim (word s exprCount) exprLimit in
+    let u : usedOf t ≡ usedOf s = rw n (v (exprsAt + 20 * cap (word s exprCount) exprLimit) (omega arith) (omega arith)) in
+    record {
+      few = rw u (fine .few);
+      below = λ e h. let k : e < cap (word s exprCount) exprLimit = rw n at h in rw (u, v (exprsAt + 20 * e) (omega arith) (omega arith)) (fine .below e k);
+    }
+
+pub used-kept : {rs : List Range} {s t : List ℕ} → Wrote rs s t → apart (0, 4) rs ≡ true → apart (64, 327764) rs ≡ true → usedOf t ≡ usedOf s
+unfolding usedOf firstItem
+used-kept {s = s} {t = t} w a b =
+    let l = cap-lim (word s exprCount) exprLimit in
+    rw (number-kept w exprCount a) (same-on 64 327764 w b (exprsAt + 20 * cap (word s exprCount) exprLimit) (omega arith) (omega arith))
+
+-- ---- an item that waits
+waiting-more : (s t : List ℕ) (n : ℕ) (i : Item) → n ≡ word s waitingCount → n < 16384 → word t waitingCount ≡ n + 1 → Still s t → Same s t waitingAt (waitingAt + 12 * n) → itemAt t (waitingAt + 12 * n) ≡ i → waitingOf t ≡ waitingOf s ++ (i ∷ [])
+unfolding waitingOf rowsTo
+waiting-more s t n i e few c still before is =
+    let z : n + 1 ≡ suc n = omega arith in
+    rw (c, ← e, cap-le (n + 1) waitingLimit (omega arith), cap-le n waitingLimit (omega arith), z, is) (ap (λ l. l ++ (i ∷ [])) (rows-same (λ k. itemAt t (waitingAt + 12 * k)) (λ k. itemAt s (waitingAt + 12 * k)) n (λ k h. item-same s t (waitingAt + 12 * k) still (λ j p q. before j (omega arith) (omega arith)))))
+
+item-of-still : (s t : List ℕ) (tag a b : ℕ) → Still s t → itemOf t tag a b ≡ itemOf s tag a b
+unfolding itemOf
+item-of-still s t tag a b e = rw (text-still s t a e)
+
+pub item-pushed : (s u t : List ℕ) (i : Item) (r : ItemRow) (n at : ℕ) → Long s → itemOf s (r .tag) (r .a) (r .b) ≡ i → Small (r .tag ∷ r .a ∷ r .b ∷ []) → n ≡ word s waitingCount → n < 16384 → at ≡ waitingAt + 12 * n
+    → u ≡ setAll s at (r .tag ∷ r .a ∷ r .b ∷ []) → t ≡ setWord u 32 (n + 1) → Did (pushItem i) s tt t
+unfolding workOf pushItem lowering Outside stateOf itemAt
+item-pushed s u t i r n at long says small e few ea eu et =
+    let ws = r .tag ∷ r .a ∷ r .b ∷ [] in
+    let lu : length u ≡ length s = rw eu (length-all s at ws) in
+    let wrote : Wrote ((32, 36) ∷ (waitingAt, 2785380) ∷ []) s t = record {
+      size = rw et (length-setWord u 32 (n + 1)) ∙ lu;
+      other = λ j o. rw et (word-setWord-other u 32 (n + 1) j (o .0) ∙ rw eu (all-other s at ws j (⊎-elim (λ z. inl (omega arith)) (λ z. inr (omega arith)) (o .1 .0))));
+    } in
+    let still : Still s t = still-then {u = u} (rw eu (still-all s at ws (omega arith))) (rw et (still-setWord u 32 (n + 1) (omega arith))) in
+    let row : (k j : ℕ) → k < 3 → j ≡ at + 4 * k → word t j ≡ getD ws k 0 = λ k j h q. rw et (word-setWord-other u 32 (n + 1) j (inr (omega arith)) ∙ rw eu (all-at s at ws small (omega arith) k j h q)) in
+    let c : word t 32 ≡ n + 1 = rw et (word-setWord-same u 32 (n + 1) (omega arith) (omega arith)) in
+    let before : Same s t waitingAt (waitingAt + 12 * n) = λ j p q. rw et (word-setWord-other u 32 (n + 1) j (inr (omega arith)) ∙ rw eu (all-other s at ws j (inl (omega arith)))) in
+    let own : itemAt t (waitingAt + 12 * n) ≡ i =
+    rw (row 0 (waitingAt + 12 * n) (omega arith) (omega arith), row 1 (waitingAt + 12 * n + 4) (omega arith) (omega arith), row 2 (waitingAt + 12 * n + 8) (omega arith) (omega arith)) (item-of-still s t (r .tag) (r .a) (r .b) still ∙ says) in
+    let q = waiting-more s t n i e few c still before own in
+    let l : ltb (length (waitingOf s)) waitingLimit ≡ true = lt-ltb (length (waitingOf s)) waitingLimit (omega (arith, waiting-few s n e (omega arith))) in
+    record {
+      wrote = record { size = wrote .size; other = λ j o. wrote .other j (⊎-elim (λ z. inl (omega arith)) (λ z. inr (omega arith)) (o .1 .0), (⊎-elim (λ z. inl (omega arith)) (λ z. inr (omega arith)) (o .1 .1 .1 .0), tt)) };
+      still = still;
+      does = λ fine. (
+        rw (
+          l,
+          q,
+          exprs-kept wrote still refl refl,
+          names-kept wrote still refl refl,
+          diagnostics-kept wrote still refl refl,
+          lost-kept wrote refl refl,
+          sets-kept wrote refl refl,
+          entries-kept wrote still refl refl,
+          used-kept wrote refl refl,
+        ),
+        fine-kept wrote refl refl fine,
+      );
+    }
+
+pub item-unpushed : (s : List ℕ) (i : Item) (n : ℕ) → n ≡ word s waitingCount → 16384 ≤ n → Did (pushItem i) s tt s
+unfolding workOf pushItem
+item-unpushed s i n e h =
+    let a : ltb (length (waitingOf s)) waitingLimit ≡ false = le-ltb (length (waitingOf s)) waitingLimit (omega (arith, length-waiting s, cap-over (word s waitingCount) waitingLimit (omega arith))) in
+    nothing-done (λ fine. rw a)
+
+-- ---- places as the code has them
+pub take-inside : (s : List ℕ) (base first count a b c : ℕ) → Long s → first + count ≤ 32768 → count ≡ length (drop base (waitingOf s)) → 0 < count → a ≡ base → b ≡ first → c ≡ count → (waitingAt + 12 * a + 12 * c ≤ length s) × (itemsAt + 12 * b + 12 * c ≤ length s)
+take-inside s base first count a b c long room size h p q r =
+    let l = length-waiting s in
+    let m = cap-lim (word s waitingCount) waitingLimit in
+    let d = length-drop base (waitingOf s) in
+    (omega arith, omega arith)
+
+pub moved-as : (s u : List ℕ) (base first count a b c : ℕ) → a ≡ base → b ≡ first → c ≡ count → u ≡ splice s (itemsAt + 12 * b) (run s (waitingAt + 12 * a) (12 * c)) → u ≡ splice s (itemsAt + 12 * first) (run s (waitingAt + 12 * base) (12 * count))
+moved-as s u base first count a b c p q r e = rw (p, q, r) at e
+
+-- ---- one step for another that does the same
+did-as : {A : Type 0} {p q : Step Work A} {s t : List ℕ} {a : A} → p (workOf s) ≡ q (workOf s) → Did p s a t → Did q s a t
+did-as e d = record { wrote = d .wrote; still = d .still; does = λ fine. let z = d .does fine in (z .0 ∙ e, z .1) }
+
+-- an expression by its row
+pub expr-allocated : (s t : List ℕ) (r : Row) (e : Expr) (p : Pointer) (base n : ℕ) → Says r e → Did (takeRow (rowMade s r p) base) s n t → Did (takeRow (exprMade s e p) base) s n t
+unfolding takeRow rowMade exprMade pointerOr
+expr-allocated s t r e p base n says d = did-as (rw (says .same s (drop base (workOf s .waiting)), says .pointed)) d
+
+-- a Missing, before which nothing waits that it could take
+pub missing-allocated : (s t : List ℕ) (r : Row) (p : Pointer) (base n : ℕ) → base ≡ length (waitingOf s) → r .sort ≡ 0 → Did (takeRow (rowMade s r p) base) s n t → Did (takeLone holeMade) s n t
+unfolding takeRow takeLone rowMade holeMade pointerOr exprOf workOf
+missing-allocated s t r p base n e z d = did-as (rw (z, e)) d

@@ -1,0 +1,6 @@
+pub mod CodeLaws
+pub mod ExprLaws
+pub mod NameLaws
+pub mod ClearLaws
+pub mod ReadLaws
+pub mod SourceMapLaws

@@ -1,0 +1,212 @@
+-- What appending names and diagnostics does to the work. Assumes nothing.
+use mathlib.Core.Path.{_≡_, refl, sym, ap, _∙_}
+use mathlib.Core.Logic.{_⊎_, inl, inr, ⊎-elim}
+use mathlib.Core.Bool.{Bool, true, false, _&&_}
+use mathlib.Core.List.{List, [], _∷_, _++_}
+use Prim.Native.Nat.{ℕ, zero, suc, _+_, _*_, _≤_, _<_, _^_}
+use native.Mathlib.Omega.{arith}
+use lib.ListN.{length, getD}
+use lib.Dec.{ltb}
+use borrow.Author.Tests.{lt-ltb, le-ltb}
+use Rattle.words.specs.Words.{word, setWord}
+use Rattle.words.proofs.WordLaws.{length-setWord, word-setWord-same, word-setWord-other}
+use Rattle.spec.specs.Basics.{Text}
+use Rattle.spec.specs.Module.{Pointer, Name, NameKind, DuplicateKey}
+use Rattle.spec.specs.State.{state, addDuplicate}
+use Rattle.module.specs.Ids.{pointerOf}
+use Rattle.module.specs.Kinds.{kindOf, numberOfKind}
+use Rattle.module.specs.declared.pointer.Pointer as code
+use Rattle.module.specs.declared.kinds.NameKind as code-kinds
+use Rattle.module.proofs.KindLaws.{name-kind-back}
+use Rattle.layout.specs.Layout.{Long, nameCount, namesAt, namePointersAt, nameLimit, diagnosticCount, diagnosticsAt, diagnosticLimit, lostCount, lostAt}
+use Rattle.layout.specs.Rows.{cap, rowsTo, setAll}
+use Rattle.layout.specs.Changes.{Range, Outside, Wrote, Still}
+use Rattle.layout.specs.Texts.{textIn}
+use Rattle.layout.specs.Exprs.{pointerAt}
+use Rattle.layout.specs.States.{nameIn, diagnosticIn, exprsOf, namesOf, diagnosticsOf, lostOf, setsOf, entriesOf, stateOf, waitingOf, usedOf}
+use Rattle.store.specs.Work.{Work, workOf, withState, nameWith, putName, putDuplicate, lowering, Fine, Did, PutDiagnostic}
+use Rattle.layout.proofs.RowLaws.{rows-same, length-rows, cap-le, cap-over, cap-lim}
+use Rattle.layout.proofs.Frames.{Same, apart, same-on, text-still, pointer-same, name-same, diagnostic-same, number-kept, exprs-kept, names-kept, diagnostics-kept, lost-kept, sets-kept, entries-kept, waiting-kept}
+use Rattle.layout.proofs.WriteLaws.{still-setWord, still-all, still-then, Small, length-all, all-other, all-at}
+use Rattle.store.proofs.ExprLaws.{fits-not, nothing-done, fine-kept, used-kept}
+
+-- ---- pointers
+-- a pointer that was written
+pub pointer-put : (s t : List ℕ) (at to : ℕ) (p : code.Pointer) → at ≡ to → at + 12 ≤ length s → Small (p .kind ∷ p .from ∷ p .to ∷ []) → t ≡ setAll s at (p .kind ∷ p .from ∷ p .to ∷ []) → pointerAt t to ≡ pointerOf p
+unfolding pointerAt pointerOf
+pointer-put s t at to p e l small w =
+    let ps = p .kind ∷ p .from ∷ p .to ∷ [] in
+    rw (w, all-at s at ps small (omega arith) 0 to (omega arith) (omega arith), all-at s at ps small (omega arith) 1 (to + 4) (omega arith) (omega arith), all-at s at ps small (omega arith) 2 (to + 8) (omega arith) (omega arith))
+
+-- ---- names
+length-names : (s : List ℕ) → length (namesOf s) ≡ cap (word s nameCount) nameLimit
+unfolding namesOf
+length-names s = length-rows (nameIn s) (cap (word s nameCount) nameLimit)
+
+name-own : (s t : List ℕ) (k : code-kinds.NameKind) (p : Pointer) (text number n : ℕ) → number ≡ numberOfKind k → word t (namesAt + 8 * n) ≡ text → word t (namesAt + 8 * n + 4) ≡ number → pointerAt t (namePointersAt + 12 * n) ≡ p → Still s t → nameIn t n ≡ nameWith (textIn s text) (kindOf k) p
+unfolding nameIn nameWith
+name-own s t k p text number n e a b q st = rw (a, b, q, e, name-kind-back k, text-still s t text st)
+
+names-more : (s t : List ℕ) (n : ℕ) (x : Name) → n ≡ word s nameCount → n < 4096 → word t nameCount ≡ n + 1 → Still s t → Same s t namesAt (namesAt + 8 * n) → Same s t namePointersAt (namePointersAt + 12 * n) → nameIn t n ≡ x → namesOf t ≡ namesOf s ++ (x ∷ [])
+unfolding namesOf rowsTo
+names-more s t n x e few c still names pointers own =
+    let z : n + 1 ≡ suc n = omega arith in
+    rw (c, ← e, cap-le (n + 1) nameLimit (omega arith), cap-le n nameLimit (omega arith), z, own) (ap (λ l. l ++ (x ∷ [])) (rows-same (nameIn t) (nameIn s) n (λ i h. name-same s t i still (λ j a b. names j (omega arith) (omega arith)) (λ j a b. pointers j (omega arith) (omega arith)))))
+
+pub name-put : (s u v t : List ℕ) (k : code-kinds.NameKind) (p : code.Pointer) (text number n at to : ℕ) → Long s → n ≡ word s nameCount → n < 4096 → number ≡ numberOfKind k → text < 2 ^ 32 → number < 2 ^ 32 → Small (p .kind ∷ p .from ∷ p .to ∷ []) → at ≡ namesAt + 8 * n → to ≡ namePointersAt + 12 * n
+    → u ≡ setAll s at (text ∷ number ∷ []) → v ≡ setAll u to (p .kind ∷ p .from ∷ p .to ∷ []) → t ≡ setWord v 4 (n + 1) → Did (putName (nameWith (textIn s text) (kindOf k) (pointerOf p))) s n t
+unfolding workOf putName withState stateOf lowering Outside nameWith
+name-put s u v t k p text number n at to long e few en ht hn hp ea et eu ev ew =
+    let ws = text ∷ number ∷ [] in
+    let ps = p .kind ∷ p .from ∷ p .to ∷ [] in
+    let lu : length u ≡ length s = rw eu (length-all s at ws) in
+    let lv : length v ≡ length u = rw ev (length-all u to ps) in
+    let wrote : Wrote ((4, 8) ∷ (917588, 999508) ∷ []) s t = record {
+      size = rw ew (length-setWord v 4 (n + 1)) ∙ lv ∙ lu;
+      other = λ j o. rw ew (word-setWord-other v 4 (n + 1) j (o .0) ∙ rw ev (all-other u to ps j (⊎-elim (λ z. inl (omega arith)) (λ z. inr (omega arith)) (o .1 .0)) ∙ rw eu (all-other s at ws j (⊎-elim (λ z. inl (omega arith)) (λ z. inr (omega arith)) (o .1 .0)))));
+    } in
+    let still : Still s t = still-then {u = u} (rw eu (still-all s at ws (omega arith))) (still-then {u = v} (rw ev (still-all u to ps (omega arith))) (rw ew (still-setWord v 4 (n + 1) (omega arith)))) in
+    let c : word t 4 ≡ n + 1 = rw ew (word-setWord-same v 4 (n + 1) (omega arith) (omega arith)) in
+    let row : (i j : ℕ) → i < 2 → j ≡ at + 4 * i → word t j ≡ getD ws i 0 = λ i j h q. rw ew (word-setWord-other v 4 (n + 1) j (inr (omega arith)) ∙ rw ev (all-other u to ps j (inl (omega arith)) ∙ rw eu (all-at s at ws (ht, (hn, tt)) (omega arith) i j h q))) in
+    let pointer : pointerAt t (namePointersAt + 12 * n) ≡ pointerOf p = pointer-same v t (namePointersAt + 12 * n) (λ j a b. rw ew (word-setWord-other v 4 (n + 1) j (inr (omega arith)))) ∙ pointer-put u v to (namePointersAt + 12 * n) p et (omega arith) hp ev in
+    let names : Same s t namesAt (namesAt + 8 * n) = λ j a b. rw ew (word-setWord-other v 4 (n + 1) j (inr (omega arith)) ∙ rw ev (all-other u to ps j (inl (omega arith)) ∙ rw eu (all-other s at ws j (inl (omega arith))))) in
+    let pointers : Same s t namePointersAt (namePointersAt + 12 * n) = λ j a b. rw ew (word-setWord-other v 4 (n + 1) j (inr (omega arith)) ∙ rw ev (all-other u to ps j (inl (omega arith)) ∙ rw eu (all-other s at ws j (inr (omega arith))))) in
+    let own : nameIn t n ≡ nameWith (textIn s text) (kindOf k) (pointerOf p) = name-own s t k (pointerOf p) text number n en (row 0 (namesAt + 8 * n) (omega arith) (omega arith)) (row 1 (namesAt + 8 * n + 4) (omega arith) (omega arith)) pointer still in
+    let more = names-more s t n _ e few c still names pointers own in
+    let l : ltb (length (namesOf s)) nameLimit ≡ true = lt-ltb (length (namesOf s)) nameLimit (omega (arith, length-names s, cap-le (word s nameCount) nameLimit (omega arith))) in
+    let size : length (namesOf s) ≡ n = omega (arith, length-names s, cap-le (word s nameCount) nameLimit (omega arith)) in
+    record {
+      wrote = record { size = wrote .size; other = λ j o. wrote .other j (⊎-elim (λ z. inl (omega arith)) (λ z. inr (omega arith)) (o .0), (⊎-elim (λ z. inl (omega arith)) (λ z. inr (omega arith)) (o .1 .1 .0), tt)) };
+      still = still;
+      does = λ fine. (
+        rw (
+          l,
+          size,
+          more,
+          exprs-kept wrote still refl refl,
+          diagnostics-kept wrote still refl refl,
+          lost-kept wrote refl refl,
+          sets-kept wrote refl refl,
+          entries-kept wrote still refl refl,
+          waiting-kept wrote still refl refl,
+          used-kept wrote refl refl,
+        ),
+        fine-kept wrote refl refl fine,
+      );
+    }
+
+pub name-full : (s : List ℕ) (x : Name) (n : ℕ) → n ≡ word s nameCount → 4096 ≤ n → Did (putName x) s 4096 s
+unfolding workOf putName stateOf
+name-full s x n e h =
+    let a : ltb (length (namesOf s)) nameLimit ≡ false = le-ltb (length (namesOf s)) nameLimit (omega (arith, length-names s, cap-over (word s nameCount) nameLimit (omega arith))) in
+    nothing-done (λ fine. rw a)
+
+-- ---- diagnostics and the lost list
+pub diagnostic-put : (s u v w t : List ℕ) (first second : code.Pointer) (key n a b c : ℕ) → Long s → n < 32768 → key < 2 ^ 32 → Small (first .kind ∷ first .from ∷ first .to ∷ []) → Small (second .kind ∷ second .from ∷ second .to ∷ []) → a ≡ diagnosticsAt + 28 * n → b ≡ diagnosticsAt + 28 * n + 4 → c ≡ diagnosticsAt + 28 * n + 16
+    → u ≡ setWord s a key → v ≡ setAll u b (first .kind ∷ first .from ∷ first .to ∷ []) → w ≡ setAll v c (second .kind ∷ second .from ∷ second .to ∷ []) → t ≡ setWord w 8 (n + 1) → PutDiagnostic n key (pointerOf first) (pointerOf second) s t
+unfolding Outside
+diagnostic-put s u v w t first second key n a b c long few hk hf hs ea eb ec eu ev ew et =
+    let fs = first .kind ∷ first .from ∷ first .to ∷ [] in
+    let ss = second .kind ∷ second .from ∷ second .to ∷ [] in
+    let lu : length u ≡ length s = rw eu (length-setWord s a key) in
+    let lv : length v ≡ length u = rw ev (length-all u b fs) in
+    let lw : length w ≡ length v = rw ew (length-all v c ss) in
+    record {
+      wrote = record {
+        size = rw et (length-setWord w 8 (n + 1)) ∙ lw ∙ lv ∙ lu;
+        other = λ j o.
+            rw et (word-setWord-other w 8 (n + 1) j (o .0)
+            ∙ rw ew (all-other v c ss j (⊎-elim (λ z. inl (omega arith)) (λ z. inr (omega arith)) (o .1 .0))
+            ∙ rw ev (all-other u b fs j (⊎-elim (λ z. inl (omega arith)) (λ z. inr (omega arith)) (o .1 .0))
+            ∙ rw eu (word-setWord-other s a key j (⊎-elim (λ z. inl (omega arith)) (λ z. inr (omega arith)) (o .1 .0))))));
+      };
+      still = still-then {u = u} (rw eu (still-setWord s a key (omega arith))) (still-then {u = v} (rw ev (still-all u b fs (omega arith))) (still-then {u = w} (rw ew (still-all v c ss (omega arith))) (rw et (still-setWord w 8 (n + 1) (omega arith)))));
+      count = rw et (word-setWord-same w 8 (n + 1) (omega arith) (omega arith));
+      key-is = rw et (word-setWord-other w 8 (n + 1) (diagnosticsAt + 28 * n) (inr (omega arith)) ∙ rw ew (all-other v c ss (diagnosticsAt + 28 * n) (inl (omega arith)) ∙ rw ev (all-other u b fs (diagnosticsAt + 28 * n) (inl (omega arith)) ∙ rw (eu, ea) (word-setWord-same s (diagnosticsAt + 28 * n) key (omega arith) hk))));
+      first-is = pointer-same v t (diagnosticsAt + 28 * n + 4) (λ j x y. rw et (word-setWord-other w 8 (n + 1) j (inr (omega arith)) ∙ rw ew (all-other v c ss j (inl (omega arith))))) ∙ pointer-put u v b (diagnosticsAt + 28 * n + 4) first eb (omega arith) hf ev;
+      second-is = pointer-same w t (diagnosticsAt + 28 * n + 16) (λ j x y. rw et (word-setWord-other w 8 (n + 1) j (inr (omega arith)))) ∙ pointer-put v w c (diagnosticsAt + 28 * n + 16) second ec (omega arith) hs ew;
+    }
+
+length-diagnostics : (s : List ℕ) → length (diagnosticsOf s) ≡ cap (word s diagnosticCount) diagnosticLimit
+unfolding diagnosticsOf
+length-diagnostics s = length-rows (diagnosticIn s) (cap (word s diagnosticCount) diagnosticLimit)
+
+length-lost : (s : List ℕ) → length (lostOf s) ≡ cap (word s lostCount) diagnosticLimit
+unfolding lostOf
+length-lost s = length-rows (λ i. pointerAt s (lostAt + 12 * i)) (cap (word s lostCount) diagnosticLimit)
+
+abbrev duplicate : Text → Pointer → Pointer → DuplicateKey
+duplicate key first second = record { key = key; first = first; second = second }
+
+diagnostics-more : (s t : List ℕ) (n : ℕ) (d : DuplicateKey) → n ≡ word s diagnosticCount → n < 32768 → word t diagnosticCount ≡ n + 1 → Still s t → Same s t diagnosticsAt (diagnosticsAt + 28 * n) → diagnosticIn t n ≡ d → diagnosticsOf t ≡ diagnosticsOf s ++ (d ∷ [])
+unfolding diagnosticsOf rowsTo
+diagnostics-more s t n d e few c still before own =
+    let z : n + 1 ≡ suc n = omega arith in
+    rw (c, ← e, cap-le (n + 1) diagnosticLimit (omega arith), cap-le n diagnosticLimit (omega arith), z, own) (ap (λ l. l ++ (d ∷ [])) (rows-same (diagnosticIn t) (diagnosticIn s) n (λ i h. diagnostic-same s t i still (λ j a b. before j (omega arith) (omega arith)))))
+
+lost-more : (s t : List ℕ) (n : ℕ) (p : Pointer) → n ≡ word s lostCount → n < 32768 → word t lostCount ≡ n + 1 → Same s t lostAt (lostAt + 12 * n) → pointerAt t (lostAt + 12 * n) ≡ p → lostOf t ≡ lostOf s ++ (p ∷ [])
+unfolding lostOf rowsTo
+lost-more s t n p e few c before own =
+    let z : n + 1 ≡ suc n = omega arith in
+    rw (c, ← e, cap-le (n + 1) diagnosticLimit (omega arith), cap-le n diagnosticLimit (omega arith), z, own) (ap (λ l. l ++ (p ∷ [])) (rows-same (λ i. pointerAt t (lostAt + 12 * i)) (λ i. pointerAt s (lostAt + 12 * i)) n (λ i h. pointer-same s t (lostAt + 12 * i) (λ j a b. before j (omega arith) (omega arith)))))
+
+diagnostic-own : (s t : List ℕ) (first second : Pointer) (key n : ℕ) → Still s t → word t (diagnosticsAt + 28 * n) ≡ key → pointerAt t (diagnosticsAt + 28 * n + 4) ≡ first → pointerAt t (diagnosticsAt + 28 * n + 16) ≡ second → diagnosticIn t n ≡ duplicate (textIn s key) first second
+unfolding diagnosticIn
+diagnostic-own s t first second key n still a b c = rw (a, b, c, text-still s t key still)
+
+pub duplicate-put : (s u v t : List ℕ) (first : code.Pointer) (second : Pointer) (key n m at : ℕ) → Long s → n ≡ word s diagnosticCount → n < 32768 → m ≡ word s lostCount → m < 32768 → Small (first .kind ∷ first .from ∷ first .to ∷ []) → at ≡ lostAt + 12 * m
+    → PutDiagnostic n key (pointerOf first) second s u → v ≡ setAll u at (first .kind ∷ first .from ∷ first .to ∷ []) → t ≡ setWord v 12 (m + 1) → Did (putDuplicate (textIn s key) (pointerOf first) second) s tt t
+unfolding workOf putDuplicate withState addDuplicate stateOf lowering Outside
+duplicate-put s u v t first second key n m at long en few em fewer hp ea put ev et =
+    let ps = first .kind ∷ first .from ∷ first .to ∷ [] in
+    let lu = put .wrote .size in
+    let lv : length v ≡ length u = rw ev (length-all u at ps) in
+    let after : (j : ℕ) → (j + 4 ≤ 12) ⊎ (16 ≤ j) → (j + 4 ≤ at) ⊎ (at + 12 ≤ j) → word t j ≡ word u j = λ j o q. rw et (word-setWord-other v 12 (m + 1) j o ∙ rw ev (all-other u at ps j q)) in
+    let wrote : Wrote ((8, 16) ∷ (999508, 2310228) ∷ []) s t = record {
+      size = rw et (length-setWord v 12 (m + 1)) ∙ lv ∙ lu;
+      other = λ j o.
+          after j (⊎-elim (λ z. inl (omega arith)) (λ z. inr (omega arith)) (o .0)) (⊎-elim (λ z. inl (omega arith)) (λ z. inr (omega arith)) (o .1 .0))
+          ∙ put .wrote .other j (⊎-elim (λ z. inl (omega arith)) (λ z. inr (omega arith)) (o .0), (⊎-elim (λ z. inl (omega arith)) (λ z. inr (omega arith)) (o .1 .0), tt));
+    } in
+    let still-u : Still u t = still-then {u = v} (rw ev (still-all u at ps (omega arith))) (rw et (still-setWord v 12 (m + 1) (omega arith))) in
+    let still : Still s t = still-then {u = u} (put .still) still-u in
+    let dc : word t 8 ≡ n + 1 = after 8 (inl (omega arith)) (inl (omega arith)) ∙ put .count in
+    let lc : word t 12 ≡ m + 1 = rw et (word-setWord-same v 12 (m + 1) (omega arith) (omega arith)) in
+    let in-diagnostics : Same u t diagnosticsAt lostAt = λ j a b. after j (inr (omega arith)) (inl (omega arith)) in
+    let d-own = diagnostic-own s t (pointerOf first) second key n still
+    (in-diagnostics (diagnosticsAt + 28 * n) (omega arith) (omega arith) ∙ put .key-is)
+    (pointer-same u t (diagnosticsAt + 28 * n + 4) (λ j a b. in-diagnostics j (omega arith) (omega arith)) ∙ put .first-is)
+    (pointer-same u t (diagnosticsAt + 28 * n + 16) (λ j a b. in-diagnostics j (omega arith) (omega arith)) ∙ put .second-is) in
+    let ds = diagnostics-more s t n (duplicate (textIn s key) (pointerOf first) second) en few dc still (λ j a b. in-diagnostics j (omega arith) (omega arith) ∙ put .wrote .other j (inr (omega arith), (inl (omega arith), tt))) d-own in
+    let l-own : pointerAt t (lostAt + 12 * m) ≡ pointerOf first = pointer-same v t (lostAt + 12 * m) (λ j a b. rw et (word-setWord-other v 12 (m + 1) j (inr (omega arith)))) ∙ pointer-put u v at (lostAt + 12 * m) first ea (omega arith) hp ev in
+    let ls = lost-more s t m (pointerOf first) em fewer lc (λ j a b. after j (inr (omega arith)) (inl (omega arith)) ∙ put .wrote .other j (inr (omega arith), (inr (omega arith), tt))) l-own in
+    let r1 : ltb (length (diagnosticsOf s)) diagnosticLimit ≡ true = lt-ltb (length (diagnosticsOf s)) diagnosticLimit (omega (arith, length-diagnostics s, cap-le (word s diagnosticCount) diagnosticLimit (omega arith))) in
+    let r2 : ltb (length (lostOf s)) diagnosticLimit ≡ true = lt-ltb (length (lostOf s)) diagnosticLimit (omega (arith, length-lost s, cap-le (word s lostCount) diagnosticLimit (omega arith))) in
+    record {
+      wrote = record { size = wrote .size; other = λ j o. wrote .other j (⊎-elim (λ z. inl (omega arith)) (λ z. inr (omega arith)) (o .0), (⊎-elim (λ z. inl (omega arith)) (λ z. inr (omega arith)) (o .1 .1 .0), tt)) };
+      still = still;
+      does = λ fine. (
+        rw (
+          r1,
+          r2,
+          ds,
+          ls,
+          exprs-kept wrote still refl refl,
+          names-kept wrote still refl refl,
+          sets-kept wrote refl refl,
+          entries-kept wrote still refl refl,
+          waiting-kept wrote still refl refl,
+          used-kept wrote refl refl,
+        ),
+        fine-kept wrote refl refl fine,
+      );
+    }
+
+pub duplicate-full : (s : List ℕ) (key : Text) (first second : Pointer) (n m : ℕ) → n ≡ word s diagnosticCount → m ≡ word s lostCount → (32768 ≤ n) ⊎ (32768 ≤ m) → Did (putDuplicate key first second) s tt s
+unfolding workOf putDuplicate stateOf
+duplicate-full s key first second n m en em (inl h) =
+    let a : ltb (length (diagnosticsOf s)) diagnosticLimit ≡ false = le-ltb (length (diagnosticsOf s)) diagnosticLimit (omega (arith, length-diagnostics s, cap-over (word s diagnosticCount) diagnosticLimit (omega arith))) in
+    nothing-done (λ fine. rw (fits-not (ltb (length (diagnosticsOf s)) diagnosticLimit) (ltb (length (lostOf s)) diagnosticLimit) (inl a)))
+duplicate-full s key first second n m en em (inr h) =
+    let a : ltb (length (lostOf s)) diagnosticLimit ≡ false = le-ltb (length (lostOf s)) diagnosticLimit (omega (arith, length-lost s, cap-over (word s lostCount) diagnosticLimit (omega arith))) in
+    nothing-done (λ fine. rw (fits-not (ltb (length (diagnosticsOf s)) diagnosticLimit) (ltb (length (lostOf s)) diagnosticLimit) (inr a)))

@@ -1,0 +1,14 @@
+-- `store::read_exprs::item_count` meets its contract. Written by a script from tools/answers_store.txt. Assumes nothing.
+use borrow.Author.Needs.{needs}
+use Rattle.store.proofs.ReadLaws.{covers-count}
+use Rattle.store.proofs.read_exprs.item_count.Statement.{statement}
+use Rattle.store.proofs.read_exprs.item_count.Tie as tie
+
+items-of-requires : tie.Need-items-of-requires
+items-of-requires c κs = search needs
+
+returns : tie.Need-returns
+returns c = covers-count _ _ _ (c .items-of .ensures)
+
+pub item-count-spec : {M : Type 1} → statement M
+item-count-spec = tie.close (tie.spec items-of-requires returns)

@@ -1,0 +1,3 @@
+pub mod Codes
+pub mod Work
+pub mod Readers

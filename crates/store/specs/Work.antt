@@ -1,0 +1,133 @@
+-- The work of lowering in a store, and its steps. A step that finds no room leaves everything as it was.
+use mathlib.Core.Path.{_≡_}
+use mathlib.Core.Bool.{_&&_}
+use mathlib.Core.List.{List, [], _∷_, _++_}
+use Prim.Native.Nat.{ℕ, _+_, _*_, _≤_, _<_}
+use lib.ListN.{length, take, drop}
+use lib.Dec.{ltb, leb}
+use Rattle.words.specs.Words.{word}
+use Rattle.spec.specs.Basics.{Text, ExprId, NameId, if_then_else_}
+use Rattle.spec.specs.Module.{Pointer, Made, NameKind, Name, DuplicateKey}
+use Rattle.spec.specs.Steps.{Step}
+use Rattle.spec.specs.State.{State, state, empty, newMade, addDuplicate}
+use Rattle.store.specs.declared.codes.Row.{Row}
+use Rattle.layout.specs.Layout.{exprCount, entryPlace, scopeCount, spentPlace, textsPlace, scopesAt, firstsAt, diagnosticCount, diagnosticsAt, exprsAt, exprPointersAt, itemsAt, waitingAt, exprLimit, nameLimit, diagnosticLimit, itemLimit, waitingLimit}
+use Rattle.layout.specs.Rows.{cap}
+use Rattle.layout.specs.Changes.{Range, Wrote, Still}
+use Rattle.layout.specs.Exprs.{Item, itemAt, itemIn, firstItem, sortOf, pointerAt}
+use Rattle.layout.specs.States.{stateOf, waitingOf, usedOf}
+
+-- the module so far and the open sets; the items that wait for their expression; how many items are in use
+pub record Work : Type 0 where
+  pub lowered : State
+  pub waiting : List Item
+  pub used : ℕ
+
+unfoldable pub workOf : List ℕ → Work
+workOf s = record { lowered = stateOf s; waiting = waitingOf s; used = usedOf s }
+
+abbrev pub Working : Type 0 → Type 0
+Working A = Step Work A
+
+-- ---- steps
+unfoldable pub withState : Work → State → Work
+withState w st = record { lowered = st; waiting = w .waiting; used = w .used }
+
+-- An expression whose items are those that wait from `base` on.
+unfoldable pub takeRow : (List Item → Made) → ℕ → Working ExprId
+takeRow make base w =
+    let is = drop base (w .waiting) in
+    if ltb (length (w .lowered .exprs)) exprLimit && leb (w .used + length is) itemLimit then
+    (length (w .lowered .exprs), record { lowered = newMade (make is) (w .lowered) .1; waiting = take base (w .waiting); used = w .used + length is })
+    else (exprLimit, w)
+
+-- an expression without items, which leaves those that wait
+unfoldable pub takeLone : (List Item → Made) → Working ExprId
+takeLone make w = takeRow make (length (w .waiting)) w
+
+unfoldable pub pushItem : Item → Working (Unit {0})
+pushItem i w =
+    if ltb (length (w .waiting)) waitingLimit then (tt, record { lowered = w .lowered; waiting = w .waiting ++ (i ∷ []); used = w .used })
+    else (tt, w)
+
+unfoldable pub nameWith : Text → NameKind → Pointer → Name
+nameWith t k p = record { text = t; kind = k; pointer = p }
+
+unfoldable pub putName : Name → Working NameId
+putName n w =
+    let st = w .lowered in
+    if ltb (length (st .names)) nameLimit then
+    (length (st .names), withState w (state (st .exprs) (st .names ++ (n ∷ [])) (st .diagnostics) (st .lost) (st .sets) (st .entries)))
+    else (nameLimit, w)
+
+unfoldable pub putDuplicate : Text → Pointer → Pointer → Working (Unit {0})
+putDuplicate key first second w =
+    let st = w .lowered in
+    if ltb (length (st .diagnostics)) diagnosticLimit && ltb (length (st .lost)) diagnosticLimit then
+    (tt, withState w (addDuplicate key first second st .1))
+    else (tt, w)
+
+-- ---- what a step did
+-- the counts, the module and the work
+unfoldable pub lowering : List Range
+lowering = (0, 16) ∷ (32, 48) ∷ (64, 2310228) ∷ (2588772, 2998372) ∷ []
+
+-- No row reaches past the items in use, and these fit.
+pub record Fine (s : List ℕ) : Type 0 where
+  pub few : usedOf s ≤ itemLimit
+  pub below : (e : ExprId) → e < cap (word s exprCount) exprLimit → firstItem s e ≤ usedOf s
+
+-- From the store s the step gave r and left the store t; the nodes, the texts and all that does not belong to lowering are as they were.
+pub record Did {A : Type 0} (p : Working A) (s : List ℕ) (r : A) (t : List ℕ) : Type 0 where
+  pub wrote : Wrote lowering s t
+  pub still : Still s t
+  pub does : Fine s → ((r, workOf t) ≡ p (workOf s)) × Fine t
+
+-- ---- the parts of an append
+-- `count` items that waited from `base` on lie in the table from `first` on, and wait no longer
+pub record Took (base count first : ℕ) (s t : List ℕ) : Type 0 where
+  pub wrote : Wrote ((32, 36) ∷ (itemsAt + 12 * first, itemsAt + 12 * (first + count)) ∷ []) s t
+  pub still : Still s t
+  pub items : (j : ℕ) → j < count → itemIn t (first + j) ≡ itemAt s (waitingAt + 12 * (base + j))
+  pub waiting : waitingOf t ≡ take base (waitingOf s)
+
+-- the row n, its pointer and where the next one's items begin
+pub record PutRow (n end : ℕ) (r : Row) (p : Pointer) (s t : List ℕ) : Type 0 where
+  pub wrote : Wrote ((0, 4) ∷ (exprsAt + 20 * n + 4, exprsAt + 20 * n + 24) ∷ (exprPointersAt + 12 * n, exprPointersAt + 12 * n + 12) ∷ []) s t
+  pub still : Still s t
+  pub count : word t exprCount ≡ n + 1
+  pub next : firstItem t (n + 1) ≡ end
+  pub sort : sortOf t n ≡ r .sort
+  pub a : word t (exprsAt + 20 * n + 8) ≡ r .a
+  pub b : word t (exprsAt + 20 * n + 12) ≡ r .b
+  pub c : word t (exprsAt + 20 * n + 16) ≡ r .c
+  pub pointer : pointerAt t (exprPointersAt + 12 * n) ≡ p
+
+-- the row n of the diagnostics
+pub record PutDiagnostic (n key : ℕ) (first second : Pointer) (s t : List ℕ) : Type 0 where
+  pub wrote : Wrote ((8, 12) ∷ (diagnosticsAt + 28 * n, diagnosticsAt + 28 * n + 28) ∷ []) s t
+  pub still : Still s t
+  pub count : word t diagnosticCount ≡ n + 1
+  pub key-is : word t (diagnosticsAt + 28 * n) ≡ key
+  pub first-is : pointerAt t (diagnosticsAt + 28 * n + 4) ≡ first
+  pub second-is : pointerAt t (diagnosticsAt + 28 * n + 16) ≡ second
+
+-- ---- a store with nothing in it
+unfoldable pub noWork : Work
+noWork = record { lowered = empty; waiting = []; used = 0 }
+
+-- what emptying a store writes: the header, and where the lists of the first rows begin
+unfoldable pub clearing : List Range
+clearing = (0, 44) ∷ (64, 68) ∷ (2441300, 2441304) ∷ (2506848, 2506852) ∷ []
+
+pub record Cleared (s t : List ℕ) : Type 0 where
+  pub wrote : Wrote clearing s t
+  pub still : Still s t
+  pub work : workOf t ≡ noWork
+  pub fine : Fine t
+  pub entry : word t entryPlace ≡ 0
+  pub scopes : word t scopeCount ≡ 0
+  pub spent : word t spentPlace ≡ 0
+  pub texts : word t textsPlace ≡ 0
+  pub first-entered : word t scopesAt ≡ 0
+  pub first-reference : word t firstsAt ≡ 0

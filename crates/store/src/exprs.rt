@@ -1,0 +1,160 @@
+// Expressions are appended: a row, its pointer, and the items that waited for it.
+ghost use mathlib.Core.Path.{_≡_};
+ghost use mathlib.Core.Option.{none, some};
+ghost use Prim.Native.Nat.{_+_, _*_, _≤_, _<_};
+ghost use lib.ListN.{length, drop};
+ghost use Rattle.words.specs.Words.{word};
+ghost use Rattle.module.specs.Ids.{pointerOf};
+ghost use Rattle.layout.specs.Layout.{Long};
+ghost use Rattle.layout.specs.Texts.{textIn};
+ghost use Rattle.layout.specs.States.{waitingOf};
+ghost use Rattle.store.specs.Codes.{ValidExpr, itemWith, rowMade, exprMade, holeMade};
+ghost use Rattle.store.specs.Work.{Did, pushItem, takeRow, takeLone, Took, PutRow};
+use crate::codes::Row;
+use crate::codes::item_row;
+use crate::codes::row_of;
+use layout::counter;
+use layout::put_five;
+use layout::put_pointer;
+use layout::put_three;
+use layout::wide;
+use module::Counter;
+use module::Expr;
+use module::ExprId;
+use module::Item;
+use module::Pointer;
+use words::get32;
+use words::move_run;
+use words::put32;
+
+const EXPRS: usize = 64;
+
+const POINTERS: usize = 327764;
+
+const ITEMS: usize = 524372;
+
+const WAITING: usize = 2588772;
+
+// How many items wait for their expression.
+pub fn waiting_count(store: &[u8]) -> u32
+    requires { ⌜ Long (now store) ⌝ }
+    ensures { λ r. ⌜ r ≡ length (waitingOf (now (store .entry))) ⌝ }
+{
+    let n = get32(store, 32);
+    if n <= 16384 { n } else { 16384 }
+}
+
+// One more item waits.
+pub fn push_item(store: &mut [u8], i: Item)
+    requires { ⌜ Long (now store) ⌝ }
+    ensures { λ _. ⌜ Did (pushItem (itemWith (textIn (now (store .entry))) i)) (now (store .entry)) tt (now (store .exit)) ⌝ }
+{
+    let count = counter(store, 32);
+    if count.has_room(16384) {
+        let row = item_row(i);
+        let next = count.next();
+        put_three(
+            store,
+            WAITING + 12 * wide(count.used),
+            row.tag,
+            row.a,
+            row.b,
+        );
+        put32(store, 32, next.used);
+    }
+}
+
+// How many wait from `base` on.
+fn waiting_from(store: &[u8], base: u32) -> u32
+    requires { ⌜ Long (now store) ⌝ }
+    ensures { λ r. ⌜ (r ≡ length (drop base (waitingOf (now (store .entry))))) × (r ≤ 16384) ⌝ }
+{
+    let n = waiting_count(store);
+    if base < n { n - base } else { 0 }
+}
+
+// The items that wait from `base` on are put in use.
+fn take_items(store: &mut [u8], base: u32, count: u32, first: u32)
+    requires { ⌜ Long (now store) × (first + count ≤ 32768) × (count ≡ length (drop base (waitingOf (now store)))) ⌝ }
+    ensures { λ _. ⌜ Took base count first (now (store .entry)) (now (store .exit)) ⌝ }
+{
+    if 0 < count {
+        move_run(
+            store,
+            WAITING + 12 * wide(base),
+            ITEMS + 12 * wide(first),
+            12 * wide(count),
+        );
+        put32(store, 32, base);
+    }
+}
+
+// The row of the next expression, whose items end at `end`.
+fn put_row(store: &mut [u8], count: Counter, end: u32, row: Row, p: Pointer)
+    requires { ⌜ Long (now store) × (count .used < 16384) ⌝ }
+    ensures { λ _. ⌜ PutRow (count .used) end row (pointerOf p) (now (store .entry)) (now (store .exit)) ⌝ }
+{
+    let n = wide(count.used);
+    let next = count.next();
+    put_five(
+        store,
+        EXPRS + 20 * n + 4,
+        row.sort,
+        row.a,
+        row.b,
+        row.c,
+        end,
+    );
+    put_pointer(store, POINTERS + 12 * n, p);
+    put32(store, 0, next.used);
+}
+
+// An expression whose items are those that wait from `base` on.
+fn alloc_row(store: &mut [u8], row: Row, base: u32, p: Pointer) -> ExprId
+    requires { ⌜ Long (now store) ⌝ }
+    ensures { λ r. ⌜ Did (takeRow (rowMade (now (store .entry)) row (pointerOf p)) base) (now (store .entry)) (r .0) (now (store .exit)) ⌝ }
+{
+    let count = counter(store, 0);
+    if count.has_room(16384) {
+        let first = get32(store, EXPRS + 20 * wide(count.used));
+        let waiting = waiting_from(store, base);
+        if first <= 32768 - waiting {
+            take_items(store, base, waiting, first);
+            put_row(store, count, first + waiting, row, p);
+            return ExprId(count.used);
+        }
+        return ExprId(16384);
+    }
+    ExprId(16384)
+}
+
+// alloc_expr: an expression with a pointer, whose items are those that wait from `base` on.
+pub fn alloc_expr(store: &mut [u8], e: Expr, base: u32, p: Pointer) -> ExprId
+    requires { ⌜ Long (now store) × ValidExpr e ⌝ }
+    ensures { λ r. ⌜ Did (takeRow (exprMade (now (store .entry)) e (pointerOf p)) base) (now (store .entry)) (r .0) (now (store .exit)) ⌝ }
+{
+    alloc_row(store, row_of(e), base, p)
+}
+
+// "Missing without a pointer": it has no items, and leaves those that wait.
+pub fn alloc_missing(store: &mut [u8]) -> ExprId
+    requires { ⌜ Long (now store) ⌝ }
+    ensures { λ r. ⌜ Did (takeLone holeMade) (now (store .entry)) (r .0) (now (store .exit)) ⌝ }
+{
+    let base = waiting_count(store);
+    alloc_row(
+        store,
+        Row {
+            sort: 0,
+            a: 0,
+            b: 0,
+            c: 0,
+        },
+        base,
+        Pointer {
+            kind: 0,
+            from: 0,
+            to: 0,
+        },
+    )
+}

@@ -1,0 +1,72 @@
+// Names and diagnostics are appended.
+ghost use mathlib.Core.Path.{_≡_};
+ghost use Prim.Native.Nat.{_<_};
+ghost use Rattle.module.specs.Ids.{pointerOf};
+ghost use Rattle.module.specs.Kinds.{kindOf};
+ghost use Rattle.layout.specs.Layout.{Long};
+ghost use Rattle.layout.specs.Texts.{textIn};
+ghost use Rattle.store.specs.Work.{Did, putName, putDuplicate, nameWith, PutDiagnostic};
+use layout::counter;
+use layout::put_pointer;
+use layout::put_two;
+use layout::wide;
+use module::NameId;
+use module::NameKind;
+use module::Pointer;
+use module::TextId;
+use words::get32;
+use words::put32;
+
+const NAMES: usize = 917588;
+
+const NAME_POINTERS: usize = 950356;
+
+const DIAGNOSTICS: usize = 999508;
+
+const LOST: usize = 1917012;
+
+// alloc_name
+pub fn alloc_name(store: &mut [u8], text: TextId, kind: NameKind, p: Pointer) -> NameId
+    requires { ⌜ Long (now store) ⌝ }
+    ensures { λ r. ⌜ Did (putName (nameWith (textIn (now (store .entry)) (text .0)) (kindOf kind) (pointerOf p))) (now (store .entry)) (r .0) (now (store .exit)) ⌝ }
+{
+    let count = counter(store, 4);
+    if count.has_room(4096) {
+        let n = wide(count.used);
+        let number = kind.number();
+        let next = count.next();
+        put_two(store, NAMES + 8 * n, text.0, number);
+        put_pointer(store, NAME_POINTERS + 12 * n, p);
+        put32(store, 4, next.used);
+        return NameId(count.used);
+    }
+    NameId(4096)
+}
+
+// The row of a diagnostic: its key and both pointers.
+fn put_diagnostic(store: &mut [u8], n: u32, key: TextId, first: Pointer, second: Pointer)
+    requires { ⌜ Long (now store) × (n < 32768) ⌝ }
+    ensures { λ _. ⌜ PutDiagnostic n (key .0) (pointerOf first) (pointerOf second) (now (store .entry)) (now (store .exit)) ⌝ }
+{
+    let at = DIAGNOSTICS + 28 * wide(n);
+    put32(store, at, key.0);
+    put_pointer(store, at + 4, first);
+    put_pointer(store, at + 16, second);
+    put32(store, 8, n + 1);
+}
+
+// LowerDiagnostic::DuplicateKey, and its first pointer in the lost list.
+pub fn add_duplicate(store: &mut [u8], key: TextId, first: Pointer, second: Pointer)
+    requires { ⌜ Long (now store) ⌝ }
+    ensures { λ _. ⌜ Did (putDuplicate (textIn (now (store .entry)) (key .0)) (pointerOf first) (pointerOf second)) (now (store .entry)) tt (now (store .exit)) ⌝ }
+{
+    let n = get32(store, 8);
+    let m = get32(store, 12);
+    if n < 32768 {
+        if m < 32768 {
+            put_diagnostic(store, n, key, first, second);
+            put_pointer(store, LOST + 12 * wide(m), first);
+            put32(store, 12, m + 1);
+        }
+    }
+}

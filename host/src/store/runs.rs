@@ -1,0 +1,214 @@
+//! Random modules built, read back and compared; then damaged stores, judged by the compiled check and by the one from the page.
+
+use super::build::build;
+use super::coverage::Coverage;
+use super::damage::{damaged, kind, Damage, Damager, Must, KINDS};
+use super::layout::{self, header, put};
+use super::model::{self, Size};
+use super::module::Module;
+use super::sound::condition;
+use super::{edges, page, Lent};
+use crate::drive;
+use generate::Rng;
+use std::collections::BTreeMap;
+use std::fmt::Debug;
+
+/// The numbers that a check can give, in the order of the columns.
+const CONDITIONS: [u32; 4] = [0, 21, 22, 23];
+
+/// How often each kind of store came out as what, and the first difference of each kind.
+#[derive(Default)]
+struct Run {
+    seen: BTreeMap<String, [u64; 4]>,
+    differences: BTreeMap<String, (u64, String)>,
+    coverage: Coverage,
+}
+
+/// Builds so many modules and damages them at least so many times in all; whether all was as it should be.
+pub fn run(fills: u64, damages: u64, seed: u64) -> bool {
+    let mut run = Run::default();
+    let mut lent = Lent::new();
+    let each = damages.div_ceil(fills.max(1));
+    for i in 0..fills {
+        run.fill(&mut lent, seed.wrapping_add(i), each);
+    }
+    for i in 0..damages.div_ceil(20) {
+        run.whole(&mut lent, seed.wrapping_add(i));
+    }
+    if let Err(why) = edges::short_stores(&mut Rng::new(seed)) {
+        run.differs("calls on short stores", why);
+    }
+    run.print(fills);
+    run.differences.is_empty()
+}
+
+impl Run {
+    /// One module: built on soiled bytes, read back, and damaged so many times.
+    fn fill(&mut self, lent: &mut Lent, seed: u64, damages: u64) {
+        let mut rng = Rng::new(seed);
+        let size = Size::of_seed(&mut rng, seed);
+        let texts = model::texts(&mut rng, &size);
+        let mut module = model::module(&mut rng, &size, &texts);
+        lent.soil(&mut rng);
+        let mut stages = Vec::new();
+        let built =
+            build(lent.store(), &mut module, &texts, &mut rng, &mut |store| stages.push((drive::condition(store), condition(store))));
+        for (i, told) in stages.into_iter().enumerate() {
+            // A cleared store has no expression, and is in order whatever it held.
+            let must = if i == 0 { Some(23) } else { None };
+            self.judged("store being built", told, must, || format!("seed {seed}, stage {i}"));
+        }
+        if let Err(why) = built.and_then(|()| holds(lent.store(), &module)) {
+            return self.differs("filled store", format!("seed {seed}, {why}"));
+        }
+        self.coverage.add(lent.store());
+        let sound = if module.exprs.is_empty() { 23 } else { 0 };
+        let told = (drive::condition(lent.store()), condition(lent.store()));
+        self.judged("filled store", told, Some(sound), || format!("seed {seed}"));
+        self.damage(lent.store(), &mut rng, sound, damages, seed);
+        if let Err(why) = edges::full_tables(lent.store(), &module) {
+            self.differs("calls on full tables", format!("seed {seed}, {why}"));
+        }
+        if !lent.margins_stand() {
+            self.differs("filled store", format!("seed {seed}, bytes outside the store were written"));
+        }
+    }
+
+    /// Damages a filled store, one time after the other, and mends it again.
+    fn damage(&mut self, store: &mut [u8], rng: &mut Rng, sound: u32, damages: u64, seed: u64) {
+        for (i, damage) in drawn(store, rng, damages).iter().enumerate() {
+            let told = damaged(store, damage, |store| (drive::condition(store), condition(store)));
+            let must = match damage.must {
+                Must::Stay => Some(sound),
+                Must::Break => Some(22),
+                Must::Short => Some(21),
+                Must::Either => None,
+            };
+            self.judged(damage.kind, told, must, || format!("seed {seed}, damage {i}: {damage:?}"));
+        }
+        let told = (drive::condition(store), condition(store));
+        self.judged("mended store", told, Some(sound), || format!("seed {seed}"));
+    }
+
+    /// Bytes that nobody built: what soils a store, as it is, or with a header that is in order.
+    fn whole(&mut self, lent: &mut Lent, seed: u64) {
+        let mut rng = Rng::new(!seed);
+        lent.soil(&mut rng);
+        let (kind, must) = match seed % 3 {
+            0 => ("any bytes", None),
+            1 => {
+                empty_header(lent.store());
+                ("any bytes under an empty header", Some(23))
+            }
+            _ => {
+                small_header(lent.store(), &mut rng);
+                ("any bytes under small counts", None)
+            }
+        };
+        let told = (drive::condition(lent.store()), condition(lent.store()));
+        self.judged(kind, told, must, || format!("seed {seed}"));
+    }
+
+    /// Counts what both checks told, and a difference between them or from what must be.
+    fn judged(&mut self, kind: &str, told: (u32, u32), must: Option<u32>, name: impl Fn() -> String) {
+        let (drive, page) = told;
+        if let Some(column) = CONDITIONS.iter().position(|&number| number == page) {
+            self.seen.entry(kind.to_string()).or_default()[column] += 1;
+        }
+        if drive != page || must.is_some_and(|must| must != page) {
+            let must = must.map_or(String::new(), |must| format!(", must be {must}"));
+            self.differs(kind, format!("drive {drive}, page {page}{must}; {}", name()));
+        }
+    }
+
+    fn differs(&mut self, kind: &str, what: String) {
+        let (count, _) = self.differences.entry(kind.to_string()).or_insert((0, what));
+        *count += 1;
+    }
+
+    fn print(&self, fills: u64) {
+        println!("{fills} modules built and read back");
+        self.coverage.print();
+        println!("stores by kind and condition:");
+        println!("{:<34} {:>8} {:>8} {:>8} {:>8} {:>8}", "", "all", "0", "21", "22", "23");
+        let mut sums = [0; 4];
+        for (kind, seen) in &self.seen {
+            print_row(kind, *seen);
+            sums.iter_mut().zip(seen).for_each(|(sum, count)| *sum += count);
+        }
+        print_row("all", sums);
+        for kind in KINDS.iter().filter(|&&kind| !self.seen.contains_key(kind)) {
+            println!("no store had a place for: {kind}");
+        }
+        for (kind, (count, first)) in &self.differences {
+            println!("DIFFERENCES, {kind}: {count}, the first: {first}");
+        }
+        println!("{} differences", self.differences.values().map(|(count, _)| count).sum::<u64>());
+    }
+}
+
+/// Nothing is in use.
+fn empty_header(store: &mut [u8]) {
+    store[..header::END].fill(0);
+    for table in [layout::EXPRS, layout::SCOPES, layout::REFERENCES] {
+        put(store, table.at, 0);
+    }
+}
+
+/// Counts of up to two, and lists that are all empty.
+fn small_header(store: &mut [u8], rng: &mut Rng) {
+    for at in (0..header::END).step_by(4) {
+        put(store, at, rng.below(3) as u32);
+    }
+    put(store, header::TEXTS, layout::TEXTS_UNSPENT as u32);
+    for table in [layout::EXPRS, layout::SCOPES, layout::REFERENCES] {
+        for row in 0..3 {
+            put(store, table.word(row, 0), 0);
+        }
+    }
+}
+
+/// So much damage to a store, of all kinds.
+fn drawn(store: &[u8], rng: &mut Rng, damages: u64) -> Vec<Damage> {
+    let damager = Damager::new(store);
+    // A kind for which the store has no place is drawn anew; some kinds always have one.
+    let mut draw = || std::iter::repeat_with(|| damager.draw(kind(rng), rng)).flatten().next();
+    (0..damages).filter_map(|_| draw()).collect()
+}
+
+fn print_row(kind: &str, seen: [u64; 4]) {
+    let [sound, short, broken, empty] = seen;
+    println!("{kind:<34} {:>8} {sound:>8} {short:>8} {broken:>8} {empty:>8}", seen.iter().sum::<u64>());
+}
+
+/// Whether the store holds the module, by the reader.
+pub fn holds(store: &[u8], module: &Module) -> Result<(), String> {
+    let read = page::read(store)?;
+    if read == *module {
+        return Ok(());
+    }
+    same_list("expression", &read.exprs, &module.exprs)?;
+    same_list("name", &read.names, &module.names)?;
+    same_list("diagnostic", &read.diagnostics, &module.diagnostics)?;
+    same_list("lost entry", &read.lost, &module.lost)?;
+    same_list("scope", &read.scopes, &module.scopes)?;
+    same("entry", &read.entry, &module.entry)?;
+    same("spent bytes", &read.spent, &module.spent)?;
+    same("bytes of texts", &read.texts, &module.texts)
+}
+
+fn same_list<T: PartialEq + Debug>(what: &str, read: &[T], right: &[T]) -> Result<(), String> {
+    same(&format!("count of {what}s"), &read.len(), &right.len())?;
+    let both = read.iter().zip(right).enumerate();
+    both.into_iter().try_for_each(|(i, (read, right))| same(&format!("{what} {i}"), read, right))
+}
+
+fn same<T: PartialEq + Debug>(what: &str, read: &T, right: &T) -> Result<(), String> {
+    // Some texts are too long to print.
+    let show = |one: &T| format!("{one:?}").chars().take(300).collect::<String>();
+    if read == right {
+        Ok(())
+    } else {
+        Err(format!("{what} is read as {} and not as {}", show(read), show(right)))
+    }
+}

@@ -1,0 +1,65 @@
+//! Nanoseconds for each byte that the check of a store goes through, beside a plain sum over the same bytes.
+
+use super::build::build;
+use super::damage::Damager;
+use super::model::{self, Size};
+use super::{sound, Lent};
+use crate::drive;
+use crate::speed::plain_sum;
+use generate::Rng;
+use std::hint::black_box;
+use std::time::Instant;
+
+const ROUNDS: usize = 7;
+/// How many bytes a round goes through at least, so that the clock's grain does not show.
+const ROUND_BYTES: usize = 16 << 20;
+
+/// Prints a table of stores of three sizes, as rows of docs/PERFORMANCE.md.
+pub fn run() -> Result<(), String> {
+    println!("| Store | Expressions | Bytes of rows in use | Condition | Check from the page | Plain sum | Condition to sum | Condition, whole |");
+    println!("|---|---|---|---|---|---|---|---|");
+    let mut rng = Rng::new(1);
+    let small = Size { exprs: 40, items: 60, names: 12, scopes: 8, entered: 12, references: 20, ..Size::about(&mut rng, 20) };
+    let middle = Size { exprs: 2_000, items: 3_000, names: 500, scopes: 300, entered: 500, references: 800, ..Size::about(&mut rng, 900) };
+    measure("small", &small)?;
+    measure("middle", &middle)?;
+    measure("full", &Size::full())?;
+    println!("nanoseconds for each byte of rows in use whose table bounds something, and the whole in microseconds;");
+    println!("the least of {ROUNDS} rounds of at least {} MiB", ROUND_BYTES >> 20);
+    Ok(())
+}
+
+fn measure(name: &str, size: &Size) -> Result<(), String> {
+    let mut rng = Rng::new(2);
+    let texts = model::texts(&mut rng, size);
+    let mut module = model::module(&mut rng, size, &texts);
+    let mut lent = Lent::new();
+    build(lent.store(), &mut module, &texts, &mut rng, &mut |_| {})?;
+    let store = &*lent.store();
+    if drive::condition(store) != 0 || sound::condition(store) != 0 {
+        return Err(format!("the {name} store is not sound"));
+    }
+    let runs = Damager::new(store).runs();
+    let bytes: usize = runs.iter().map(|run| run.len()).sum();
+    let condition = least(bytes, || u64::from(drive::condition(black_box(store))));
+    let page = least(bytes, || u64::from(sound::condition(black_box(store))));
+    let sum = least(bytes, || runs.iter().map(|run| plain_sum(&black_box(store)[run.clone()])).sum());
+    let whole = condition * bytes as f64 / 1e3;
+    let exprs = module.exprs.len();
+    println!("| {name} | {exprs} | {bytes} | {condition:.3} | {page:.3} | {sum:.3} | {:.1} | {whole:.1} |", condition / sum);
+    Ok(())
+}
+
+/// Nanoseconds for each byte in the quickest round.
+fn least(bytes: usize, mut work: impl FnMut() -> u64) -> f64 {
+    let turns = ROUND_BYTES.div_ceil(bytes);
+    let mut best = f64::INFINITY;
+    for _ in 0..ROUNDS {
+        let start = Instant::now();
+        for _ in 0..turns {
+            black_box(work());
+        }
+        best = best.min(start.elapsed().as_secs_f64());
+    }
+    best * 1e9 / (turns * bytes) as f64
+}
