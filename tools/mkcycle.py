@@ -3,6 +3,7 @@
 from the lines that `rt dev` prints for the cycle (PRINTED), the generated Lts (GENDIR, of `rt dev NAME --generated GENDIR`)
 and the answers. In an answer `@THING` is the path from c to the record of that thing, and `@start` the path to the entry."""
 import sys,re,os
+from lts import paths
 printed,gendir,cratedir,answers=sys.argv[1:5]
 src=open(printed).read()
 crate=os.path.basename(os.path.normpath(cratedir))
@@ -29,24 +30,7 @@ invs=list(re.finditer(r'^abbrev (\S+)-((?:Inv|μ)-\S+) : (\S+)-lts\.(\S+)\n(\S+)
 def under(n): return n.replace('-','_')
 def lts_paths(member):
     t=open(f'{gendir}/Rattle.{crate}.proofs/{folder}{cyc}/Lts-{under(member)}.antt').read()
-    rec={}; c=None
-    for l in t.split('\n'):
-        m=re.match(r'\s+pub record (\S+) : Type 0 where',l)
-        if m: c=m.group(1); rec[c]=[]; continue
-        m=re.match(r'\s+pub (\S+) : (.*)',l)
-        if m and c: rec[c].append((m.group(1),m.group(2)))
-    out={}
-    for n,p in re.findall(r'\n\s+Need-(\S+) =\s+\(c : (\S+)\)',t):
-        d={}; k=0
-        while True:
-            fs=rec[p]; f=dict(fs)
-            if 'before' in f:
-                for x,_ in fs:
-                    if x!='before' and x not in d: d[x]='c'+' .before'*k+' .'+x
-                p=f['before'].split()[0]; k+=1
-            else: d['start']='c'+' .before'*k; break
-        out[n]=d
-    return out
+    return paths(t)
 dst=f'{cratedir}/{folder}{cyc}'
 os.makedirs(f'{dst}/Proof',exist_ok=True)
 def camel(n): return ''.join(x.capitalize() for x in n.split('-'))

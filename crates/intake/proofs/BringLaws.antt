@@ -29,7 +29,8 @@ use Rattle.sheet.specs.declared.numbers.NumberRead.the-variants as number
 use Rattle.layout.specs.Layout.{Long, storeBytes, textsPlace, nodeCount, nodesAt, kidsAt, nodeLimit, kidLimit}
 use Rattle.layout.specs.Rows.{rowsTo}
 use Rattle.layout.specs.Nodes.{nodeIn, nodesOf}
-use Rattle.intake.specs.Bring.{Within, sheetTexts, kidsIn, Spans, RowIn, RowOver, RowBrought, ahead, kidPlaces, Bringing, Refuses, NodeIn, Stopped, NodeBrought, Counted, AllIn, AllBrought, Brought}
+use Rattle.spec.specs.Tree.{kidPlaces}
+use Rattle.intake.specs.Bring.{Within, sheetTexts, kidsIn, Spans, RowIn, RowOver, RowBrought, ahead, Bringing, Refuses, NodeIn, Stopped, NodeBrought, Counted, AllIn, AllBrought, Brought}
 use Rattle.intake.specs.declared.bring.Front.{Front}
 use Rattle.intake.specs.declared.bring.Room.{Room}
 use Rattle.intake.specs.declared.bring.Room.the-variants as room

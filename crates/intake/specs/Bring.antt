@@ -9,6 +9,7 @@ use lib.ListN.{length}
 use Rattle.words.specs.Runs.{run}
 use Rattle.words.specs.Words.{word}
 use Rattle.spec.specs.Basics.{Text, NodeId}
+use Rattle.spec.specs.Tree.{kidPlaces}
 use Rattle.spec.specs.Sheet.{Node, Got, got, bad, kidList, allBelow, nodesFrom, nodeList, accepted, readSheet}
 use Rattle.sheet.specs.Kids.{kidsOf}
 use Rattle.sheet.specs.Texts.{decoded}
@@ -142,11 +143,6 @@ RowBrought s n t u i f step.Full = RowOver s n t u f
 abbrev pub ahead : List Node → Got (List Node) → Got (List Node)
 ahead ns (got ms at) = got (ns ++ ms) at
 ahead ns (bad why at) = bad why at
-
--- the places that all kids take
-unfoldable pub kidPlaces : List Node → ℕ
-kidPlaces [] = 0
-kidPlaces (n ∷ ns) = length (n .kids) + kidPlaces ns
 
 -- the first i of `count` nodes are in the store, and the others follow in the sheet
 pub record Bringing (s : List ℕ) (count i : ℕ) (f : Front) (t : List ℕ) : Type 0 where

@@ -8,10 +8,10 @@ ghost use Rattle.spec.specs.Tree.{nodeAt};
 ghost use Rattle.spec.specs.Keys.{kind, flag, text, pointer, kid};
 ghost use Rattle.layout.specs.Layout.{Long};
 ghost use Rattle.layout.specs.Texts.{textIn};
-ghost use Rattle.layout.specs.Rows.{cap};
 ghost use Rattle.layout.specs.Nodes.{firstKid, kidIn, nodesOf};
 ghost use Rattle.intake.specs.NodeReads.{nodeWord};
 ghost use Rattle.module.specs.Ids.{nodeOf, pointerOf};
+use layout::at_most;
 use module::MaybeNode;
 use module::NodeId;
 use module::Pointer;
@@ -45,17 +45,11 @@ pub const KID_LIMIT: u32 = 16384;
 // The mark for what is absent.
 pub const ABSENT: u32 = 4294967295;
 
-fn capped(n: u32, limit: u32) -> u32
-    ensures { λ r. ⌜ r ≡ cap n limit ⌝ }
-{
-    if n <= limit { n } else { limit }
-}
-
 fn has_node(store: &[u8], n: NodeId) -> bool
     requires { ⌜ Long (now store) ⌝ }
     ensures { λ r. ⌜ r ≡ ltb (n .0) (length (nodesOf (now (store .entry)))) ⌝ }
 {
-    n.0 < capped(get32(store, NODE_COUNT), NODE_LIMIT)
+    n.0 < at_most(get32(store, NODE_COUNT), NODE_LIMIT)
 }
 
 // A word of a node's row; 0 where there is no such node.
@@ -109,7 +103,7 @@ fn first_kid(store: &[u8], i: u32) -> u32
     requires { ⌜ Long (now store) × (i ≤ 4096) ⌝ }
     ensures { λ r. ⌜ r ≡ firstKid (now (store .entry)) i ⌝ }
 {
-    capped(get32(store, NODES_AT + ROW * (i as usize)), KID_LIMIT)
+    at_most(get32(store, NODES_AT + ROW * (i as usize)), KID_LIMIT)
 }
 
 pub fn kid_count(store: &[u8], n: NodeId) -> u32

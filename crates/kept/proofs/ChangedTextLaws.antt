@@ -17,14 +17,9 @@ use Rattle.layout.specs.Changes.{Outside, Wrote}
 use Rattle.layout.specs.Texts.{textOf, textIn}
 use Rattle.soundness.specs.Sound.{textFits}
 use Rattle.kept.specs.TextChanges.{texting, Texted}
-use Rattle.layout.proofs.Frames.{wrote-none}
+use Rattle.layout.proofs.Frames.{wrote-none, text-absent}
 use Rattle.kept.proofs.ScopeLaws.{clear-of}
 use Rattle.kept.proofs.TextFrames.{kept-worded}
-
--- the mark is the empty text, whatever the bytes
-pub text-absent : (s : List ℕ) → textIn s absent ≡ []
-unfolding textIn textOf
-text-absent s = rw (lt-leb (absent + 4 + word s (textsAt + absent)) textLimit (omega arith))
 
 pub fits-absent : (s : List ℕ) → textFits s absent ≡ true
 unfolding textFits

@@ -17,13 +17,6 @@ use Rattle.layout.specs.Keeps.{firstEntered, enteredOf, kindOfScope, scopeIn, s
 use Rattle.kept.specs.Walks.{namesEntered, withOf, scopeWord, root}
 use Rattle.layout.proofs.RowLaws.{length-rows, getD-rows, getD-past, cap-le, cap-over, cap-lim}
 
--- ---- counts and raised numbers
-pub cap-in : (n m l : ℕ) → n ≡ m → n ≤ l → n ≡ cap m l
-cap-in n m l e h = rw (← e) (sym (cap-le n l h))
-
-pub cap-out : (n m l : ℕ) → n ≡ m → l < n → l ≡ cap m l
-cap-out n m l e h = rw (← e) (sym (cap-over n l (omega arith)))
-
 pub below-cap : (i n c : ℕ) → n ≡ c → i < n → i < c
 below-cap i n c e h = rw (← e) h
 

@@ -5,6 +5,7 @@ ghost use lib.ListN.{length};
 ghost use Rattle.words.specs.Words.{word};
 ghost use Rattle.module.specs.Ids.{scopeOf, exprOf};
 ghost use Rattle.layout.specs.Rows.{cap, raised};
+use layout::at_most;
 use module::ExprId;
 use module::MaybeExpr;
 use module::MaybeScope;
@@ -16,8 +17,7 @@ pub fn in_use(store: &[u8], at: usize, limit: u32) -> u32
     requires { ⌜ at + 4 ≤ length (now store) ⌝ }
     ensures { λ r. ⌜ r ≡ cap (word (now (store .entry)) at) limit ⌝ }
 {
-    let n = get32(store, at);
-    if n <= limit { n } else { limit }
+    at_most(get32(store, at), limit)
 }
 
 // How much is left of a, and nothing where b is more.

@@ -8,7 +8,7 @@ use native.Mathlib.Omega.{arith}
 use lib.ListN.{length, take, drop}
 use lib.Seq.{drop-drop}
 use lib.Dec.{leb}
-use borrow.Author.Tests.{leb-true}
+use borrow.Author.Tests.{leb-true, lt-leb}
 use Rattle.spec.proofs.Subtrees.{and-true}
 use Rattle.words.specs.Runs.{run}
 use Rattle.words.specs.Words.{number, word}
@@ -16,7 +16,7 @@ use Rattle.spec.specs.Module.{Module}
 use Rattle.spec.specs.Lower.{moduleOf}
 use Rattle.module.specs.Ids.{pointerOf}
 use Rattle.module.specs.declared.pointer.Pointer as code-pointer
-use Rattle.layout.specs.Layout.{sheetAt, textsAt, textLimit, exprsAt, exprPointersAt, itemsAt, itemLimit, namesAt, namePointersAt, diagnosticsAt, lostAt, usesAt, scopesAt, enteredAt, firstsAt, referencesAt, waitingAt, setsAt, entriesAt, exprLimit, nameLimit, diagnosticLimit, scopeLimit, referenceLimit, waitingLimit, setLimit, entryLimit, exprCount, nameCount, diagnosticCount, lostCount, entryPlace, scopeCount, waitingCount, setCount, entryCount}
+use Rattle.layout.specs.Layout.{absent, sheetAt, textsAt, textLimit, exprsAt, exprPointersAt, itemsAt, itemLimit, namesAt, namePointersAt, diagnosticsAt, lostAt, usesAt, scopesAt, enteredAt, firstsAt, referencesAt, waitingAt, setsAt, entriesAt, exprLimit, nameLimit, diagnosticLimit, scopeLimit, referenceLimit, waitingLimit, setLimit, entryLimit, exprCount, nameCount, diagnosticCount, lostCount, entryPlace, scopeCount, waitingCount, setCount, entryCount}
 use Rattle.layout.specs.Rows.{cap, rowsTo, rowsFrom}
 use Rattle.layout.specs.Changes.{Range, Outside, Wrote, Still}
 use Rattle.layout.specs.Texts.{textOf, textIn}
@@ -70,6 +70,11 @@ word-still s t at e h = ap number (run-still s t at 4 e h)
 pub text-still : (s t : List ℕ) (k : ℕ) → Still s t → textIn t k ≡ textIn s k
 unfolding textIn textOf
 text-still s t k e = rw (word-still s t (textsAt + k) e (omega arith), run-still s t (textsAt + k + 4) (word s (textsAt + k)) e (omega arith))
+
+-- the mark is the empty text, whatever the bytes
+pub text-absent : (s : List ℕ) → textIn s absent ≡ []
+unfolding textIn textOf
+text-absent s = rw (lt-leb (absent + 4 + word s (textsAt + absent)) textLimit (omega arith))
 
 -- ---- rows
 pub pointer-same : (s t : List ℕ) (at : ℕ) → Same s t at (at + 12) → pointerAt t at ≡ pointerAt s at

@@ -5,6 +5,7 @@
 // writes that the others share.
 mod rows;
 
+pub use rows::at_most;
 pub use rows::counter;
 pub use rows::get_pointer;
 pub use rows::put_five;

@@ -5,7 +5,7 @@ ghost use Prim.Native.Nat.{_+_, _≤_};
 ghost use lib.ListN.{length};
 ghost use Rattle.words.specs.Words.{word};
 ghost use Rattle.module.specs.Ids.{pointerOf};
-ghost use Rattle.layout.specs.Rows.{setAll};
+ghost use Rattle.layout.specs.Rows.{cap, setAll};
 ghost use Rattle.layout.specs.Exprs.{pointerAt};
 use module::Counter;
 use module::Pointer;
@@ -20,6 +20,13 @@ pub fn counter(store: &[u8], at: usize) -> Counter
     Counter {
         used: get32(store, at),
     }
+}
+
+// A number, which is at most the limit whatever stands there.
+pub fn at_most(n: u32, limit: u32) -> u32
+    ensures { λ r. ⌜ (r ≡ cap n limit) × (r ≤ limit) ⌝ }
+{
+    if n <= limit { n } else { limit }
 }
 
 // A number as a place.

@@ -10,7 +10,7 @@ use native.Mathlib.Omega.{arith}
 use lib.ListN.{length, length-set}
 use Rattle.words.specs.Equality.{equalb}
 use Rattle.spec.specs.Sheet.{Node, Judged, accepted, refused, readSheet}
-use Rattle.spec.specs.Tree.{judgeTree, judge}
+use Rattle.spec.specs.Tree.{judgeTree, judge, kidPlaces}
 use Rattle.spec.specs.Module.{missing, reference, Made, Module}
 use Rattle.spec.specs.Lower.{lowerModule}
 use Rattle.spec.specs.Scopes.{exprAt, madeAt}
@@ -25,7 +25,7 @@ use Rattle.spec.proofs.SheetRoom.{judged-same, sheet-room}
 use Rattle.spec.proofs.Numbers.{at}
 use Rattle.spec.proofs.Filling.{itemsIn, referring, listItems, referencesIn}
 use Rattle.spec.proofs.ItemRoom.{item-room}
-use Rattle.spec.proofs.TreeRoom.{kidPlaces, kid-room, size, size-all}
+use Rattle.spec.proofs.TreeRoom.{kid-room, size, size-all}
 use Rattle.spec.proofs.TextRoom.{textBytes, text-room}
 use Rattle.spec.proofs.NameRoom.{namesEntered, entered-room}
 use Rattle.spec.proofs.ReferenceRoom.{keptCount, references-room}

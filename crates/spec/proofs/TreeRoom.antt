@@ -11,7 +11,7 @@ use borrow.Author.Tests.{leb-true}
 use Rattle.spec.specs.Basics.{NodeId}
 use Rattle.spec.specs.Kinds.{Slot, Kind, places, kinds, kindOf}
 use Rattle.spec.specs.Sheet.{Node, accepted}
-use Rattle.spec.specs.Tree.{nobody, nodeAt, Walked, met, stopped, kidFits, walkKids, walkNode, walkTo, judgeTree}
+use Rattle.spec.specs.Tree.{nobody, nodeAt, Walked, met, stopped, kidFits, walkKids, walkNode, walkTo, judgeTree, kidPlaces}
 use Rattle.spec.specs.Keys.{present, items}
 use Rattle.spec.proofs.Sums.{sumBy}
 use Rattle.spec.proofs.Weights.{upTo}
@@ -28,9 +28,10 @@ sum-upTo f d [] = refl
 sum-upTo f d (x ∷ xs) = let h = sum-upTo f d xs in let k = upTo-first (λ i. f (getD (x ∷ xs) i d)) (length xs) in omega arith
 
 -- ---- kid places
--- all places for kids in a list of nodes, absent ones too
-abbrev pub kidPlaces : List Node → ℕ
-kidPlaces nodes = sumBy (λ d. length (d .kids)) nodes
+places-sum : (nodes : List Node) → kidPlaces nodes ≡ sumBy (λ (d : Node). length (d .kids)) nodes
+unfolding kidPlaces
+places-sum [] = refl
+places-sum (n ∷ ns) = omega (arith, places-sum ns)
 
 -- no kind has more than three counted places
 abbrev counted-checked : List Kind → Bool
@@ -100,7 +101,7 @@ kid-room nodes e =
     let z = walked-all nodes e in
     let r = walk-places nodes 255 0 (z .0) (z .1) in
     let l : suc (z .0) ≡ length nodes = omega (arith, z .2) in
-    let s : kidPlaces nodes ≡ upTo (placesAt nodes) (suc (z .0)) = sum-upTo (λ (d : Node). length (d .kids)) nobody nodes ∙ ap (upTo (placesAt nodes)) (sym l) in
+    let s : kidPlaces nodes ≡ upTo (placesAt nodes) (suc (z .0)) = places-sum nodes ∙ sum-upTo (λ (d : Node). length (d .kids)) nobody nodes ∙ ap (upTo (placesAt nodes)) (sym l) in
     omega (arith, r .1)
 
 -- ---- sizes

@@ -15,6 +15,11 @@ nobody = record { kind = 0; from = 0; to = 0; flag = 0; kids = []; text = [] }
 unfoldable pub nodeAt : List Node → NodeId → Node
 nodeAt nodes n = getD nodes n nobody
 
+-- how many places for kids all nodes have together, absent kids among them
+unfoldable pub kidPlaces : List Node → ℕ
+kidPlaces [] = 0
+kidPlaces (n ∷ ns) = length (n .kids) + kidPlaces ns
+
 -- How far a walk has come: the highest node met; or the refusal that stopped it, its number and the parent node.
 pub data Walked : Type 0 where
   met : ℕ → Walked

@@ -44,8 +44,8 @@ length-waiting s = length-rows (λ i. itemAt s (waitingAt + 12 * i)) (cap (word 
 pub waiting-few : (s : List ℕ) (n : ℕ) → n ≡ word s waitingCount → n ≤ waitingLimit → n ≡ length (waitingOf s)
 waiting-few s n e h = sym (length-waiting s ∙ rw (← e) (cap-le n waitingLimit h))
 
-pub waiting-over : (s : List ℕ) (n : ℕ) → n ≡ word s waitingCount → waitingLimit < n → 16384 ≡ length (waitingOf s)
-waiting-over s n e h = sym (length-waiting s ∙ rw (← e) (cap-over n waitingLimit (omega arith)))
+pub waiting-counted : (s : List ℕ) (n r : ℕ) → n ≡ word s waitingCount → r ≡ cap n waitingLimit → r ≡ length (waitingOf s)
+waiting-counted s n r e c = c ∙ rw e (sym (length-waiting s))
 
 pub from-some : (s : List ℕ) (base n : ℕ) → n ≡ length (waitingOf s) → base < n → (n - base ≡ length (drop base (waitingOf s))) × (n - base ≤ 16384)
 from-some s base n e h = (rw (length-drop base (waitingOf s)) (rw e), omega (arith, length-waiting s, cap-lim (word s waitingCount) waitingLimit))

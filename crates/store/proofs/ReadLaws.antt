@@ -40,7 +40,7 @@ use Rattle.layout.specs.States.{nameIn, diagnosticIn, exprsOf, namesOf, diagnos
 use Rattle.store.specs.Readers.{SetEntry, itemsAtExpr, itemAtExpr, Covers, nowhere, diagnosticAt, lostPointerAt}
 use Rattle.store.specs.Codes.{exprWith, itemWith, ValidExpr, Reads, ReadsItem}
 use Rattle.layout.proofs.RowLaws.{length-rows, getD-rows, getD-past, cap-le, cap-over, cap-lim}
-use Rattle.layout.proofs.Frames.{exprs-kept, names-kept, diagnostics-kept, lost-kept, sets-kept, entries-kept}
+use Rattle.layout.proofs.Frames.{exprs-kept, names-kept, diagnostics-kept, lost-kept, sets-kept, entries-kept, text-absent}
 use Rattle.layout.proofs.WriteLaws.{still-setWord}
 
 -- ---- rows
@@ -140,13 +140,6 @@ last-item-read r k v a b x =
           );
     }
 
--- ---- counts
-pub small-is : (n limit : ℕ) → n ≤ limit → (n ≡ cap n limit) × (n ≤ limit)
-small-is n limit h = (sym (cap-le n limit h), h)
-
-pub limit-is : (n limit : ℕ) → limit < n → (limit ≡ cap n limit) × (limit ≤ limit)
-limit-is n limit h = (sym (cap-over n limit (omega arith)), omega arith)
-
 counted : {A : Type 0} (f : ℕ → A) (s : List ℕ) (at limit n r : ℕ) → n ≡ word s at → (r ≡ cap n limit) × (r ≤ limit) → (r ≡ length (rowsTo f (cap (word s at) limit))) × (r ≤ limit)
 counted f s at limit n r e h = (rw (length-rows f (cap (word s at) limit), ← e) (h .0), h .1)
 
@@ -187,11 +180,6 @@ module _ {A : Type 0} (f : ℕ → A) (c n i : ℕ) (d : A) (size : n ≡ length
 
   lacked : n ≤ i → getD (rowsTo f c) i d ≡ d
   lacked h = getD-past f c i d (omega (arith, length-rows f c))
-
--- the mark's text is empty
-pub absent-text : (s : List ℕ) → textIn s absent ≡ []
-unfolding textIn textOf
-absent-text s = rw (lt-leb (absent + 4 + word s (3162240 + absent)) 786432 (omega arith))
 
 -- ---- expressions
 module _ (s : List ℕ) (n e : ℕ) (size : n ≡ length (exprsOf s)) where
@@ -275,7 +263,7 @@ module _ (s : List ℕ) (n x : ℕ) (size : n ≡ length (namesOf s)) where
   name-text-in w t h q a = rw (name-in h, a, q)
 
   pub name-text-out : n ≤ x → textIn s absent ≡ nameAt (moduleIn s) x .text
-  name-text-out h = rw (name-out h, absent-text s)
+  name-text-out h = rw (name-out h, text-absent s)
 
   pub name-kind-in : (w v : ℕ) (k : NameKind) → x < n → w ≡ x → v ≡ word s (namesAt + 8 * w + 4) → k ≡ kindOfNumber v → kindOf k ≡ nameAt (moduleIn s) x .kind
   unfolding nameIn nameKindOf
@@ -301,7 +289,7 @@ module _ (s : List ℕ) (n i : ℕ) where
     key-in w t h q a = rw (diagnostic-in h, a, q)
 
     pub key-out : n ≤ i → textIn s absent ≡ diagnosticAt (moduleIn s) i .key
-    key-out h = rw (diagnostic-out h, absent-text s)
+    key-out h = rw (diagnostic-out h, text-absent s)
 
     pub first-in : (w : ℕ) (p : spec.Pointer) → i < n → w ≡ i → p ≡ pointerAt s (diagnosticsAt + 28 * w + 4) → p ≡ diagnosticAt (moduleIn s) i .first
     unfolding diagnosticIn

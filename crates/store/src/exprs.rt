@@ -13,6 +13,7 @@ ghost use Rattle.store.specs.Work.{Did, pushItem, takeRow, takeLone, Too
 use crate::codes::Row;
 use crate::codes::item_row;
 use crate::codes::row_of;
+use layout::at_most;
 use layout::counter;
 use layout::put_five;
 use layout::put_pointer;
@@ -40,8 +41,7 @@ pub fn waiting_count(store: &[u8]) -> u32
     requires { ⌜ Long (now store) ⌝ }
     ensures { λ r. ⌜ r ≡ length (waitingOf (now (store .entry))) ⌝ }
 {
-    let n = get32(store, 32);
-    if n <= 16384 { n } else { 16384 }
+    at_most(get32(store, 32), 16384)
 }
 
 // One more item waits.

@@ -3,19 +3,12 @@ ghost use mathlib.Core.Path.{_≡_};
 ghost use Prim.Native.Nat.{_≤_};
 ghost use lib.ListN.{length};
 ghost use Rattle.layout.specs.Layout.{Long};
-ghost use Rattle.layout.specs.Rows.{cap};
 ghost use Rattle.layout.specs.States.{exprsOf, namesOf, diagnosticsOf, lostOf, moduleIn};
 ghost use Rattle.store.specs.Readers.{SetEntry};
+use layout::at_most;
 use module::ExprId;
 use words::get32;
 use words::put32;
-
-// A number, which is at most the limit whatever stands there.
-pub fn at_most(n: u32, limit: u32) -> u32
-    ensures { λ r. ⌜ (r ≡ cap n limit) × (r ≤ limit) ⌝ }
-{
-    if n <= limit { n } else { limit }
-}
 
 pub fn expr_count(store: &[u8]) -> u32
     requires { ⌜ Long (now store) ⌝ }

@@ -13,11 +13,11 @@ add-get32 c = search needs
 get32-requires : tie.Need-get32-requires
 get32-requires c κs = search needs
 
-capped-requires : tie.Need-capped-requires
-capped-requires c κs = search needs
+at-most-requires : tie.Need-at-most-requires
+at-most-requires c κs = search needs
 
 returns : tie.Need-returns
-returns c = first-from _ _ _ _ (c .before .get32 .ensures) (c .capped .ensures)
+returns c = first-from _ _ _ _ (c .before .get32 .ensures) (c .at-most .ensures .0)
 
 pub first-kid-spec : {M : Type 1} → statement M
-first-kid-spec = tie.close (tie.spec mul-get32 add-get32 get32-requires capped-requires returns)
+first-kid-spec = tie.close (tie.spec mul-get32 add-get32 get32-requires at-most-requires returns)

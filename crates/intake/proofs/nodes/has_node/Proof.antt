@@ -7,11 +7,11 @@ use Rattle.intake.proofs.nodes.has_node.Tie as tie
 get32-requires : tie.Need-get32-requires
 get32-requires c κs = search needs
 
-capped-requires : tie.Need-capped-requires
-capped-requires c κs = search needs
+at-most-requires : tie.Need-at-most-requires
+at-most-requires c κs = search needs
 
 returns : tie.Need-returns
-returns c = count-from _ _ _ _ (c .before .before .get32 .ensures) (c .before .capped .ensures)
+returns c = count-from _ _ _ _ (c .before .before .get32 .ensures) (c .before .at-most .ensures .0)
 
 pub has-node-spec : {M : Type 1} → statement M
-has-node-spec = tie.close (tie.spec get32-requires capped-requires returns)
+has-node-spec = tie.close (tie.spec get32-requires at-most-requires returns)
