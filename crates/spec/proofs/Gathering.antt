@@ -11,10 +11,10 @@ use Rattle.spec.specs.Basics.{Text}
 use Rattle.spec.specs.Steps.{_>>=_, give, asks, when}
 use Rattle.spec.specs.Module.{Pointer, BindingValue, NameKind, PlainAttrset}
 use Rattle.spec.specs.State.{SetId, MergingSet, MergingEntry, static, source, State, Low, allocName, addDuplicate, newSet, setEntries, addEntry, setEntry, cut, inner}
-use Rattle.spec.specs.Merge.{find, entryAt, nestedIn, withValue, withNested, nestedAt, nameKey, mergeValueAt, mergeStaticValue, newNested, nestedOr, nestedStaticAt, getOrCreateNestedStatic}
+use Rattle.spec.specs.Merge.{setOf, find, entryAt, nestedIn, withValue, withNested, nestedAt, nameKey, mergeValueAt, mergeStaticValue, newNested, nestedOr, nestedStaticAt, getOrCreateNestedStatic}
 use Rattle.spec.proofs.ListLaws.{length-snoc}
 use Rattle.spec.proofs.Sums.{sumBy}
-use Rattle.spec.proofs.Weights.{setOf, Between, Known}
+use Rattle.spec.proofs.Weights.{Between, Known}
 use Rattle.spec.proofs.Nesting.{once-none, nestedOf}
 use Rattle.spec.proofs.Merging.{Inside, Base, known-inside, nested-between, merged-add}
 use Rattle.spec.proofs.Linear.{merges-give, merges-value, merges-nested, top-weighs}

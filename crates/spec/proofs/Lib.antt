@@ -41,6 +41,11 @@ pub mod Gathering
 pub mod ItemRoom
 pub mod TreeRoom
 pub mod TextRoom
+pub mod Floats
 pub mod NameRoom
 pub mod ReferenceRoom
 pub mod KeptRoom
+pub mod Sizes
+pub mod Standing
+pub mod Above
+pub mod Loads

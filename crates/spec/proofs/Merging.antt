@@ -14,10 +14,10 @@ use Rattle.spec.specs.Steps.{_>>=_, asks}
 use Rattle.spec.specs.Module.{Pointer, BindingValue}
 use Rattle.spec.specs.State.{SetId, MergingSet, MergingEntry, static, source, dynamic, State, Low, addDuplicate, setEntries, addEntry, setEntry}
 use Rattle.spec.specs.Scopes.{oneOrNone}
-use Rattle.spec.specs.Merge.{isAt, findFrom, find, entryAt, nestedIn, withValue, withNested, nestedAt, mergeValueAt}
+use Rattle.spec.specs.Merge.{setOf, isAt, findFrom, find, entryAt, nestedIn, withValue, withNested, nestedAt, mergeValueAt}
 use Rattle.spec.proofs.BoolLaws.{differ}
 use Rattle.spec.proofs.Sums.{sumBy, All, sum-append, all-append, all-map}
-use Rattle.spec.proofs.Weights.{setOf, Between, NamesSets, Known, Scale, paid, Fits, Makes}
+use Rattle.spec.proofs.Weights.{Between, NamesSets, Known, Scale, paid, Fits, Makes}
 use Rattle.spec.proofs.Lowering.{valueWeight}
 use Rattle.spec.proofs.Nesting.{MetOnce, once-same, once-more, all-set, all-at, sum-set, set-behind, getD-behind, nests, nestedOf, nested-set, nested-append, nested-none, nested-all, isAt-set, findFrom-at, findFrom-skips}
 use Rattle.spec.proofs.Finishing.{own}

@@ -12,11 +12,10 @@ use Rattle.words.specs.Order.{pick}
 use Rattle.words.specs.Equality.{equalb}
 use Rattle.spec.specs.Basics.{Text}
 use Rattle.spec.specs.State.{SetId, MergingEntry, static, source, dynamic}
-use Rattle.spec.specs.Merge.{isAt, findFrom, nestedIn}
+use Rattle.spec.specs.Merge.{setOf, isAt, findFrom, nestedIn}
 use Rattle.spec.specs.Scopes.{oneOrNone}
 use Rattle.spec.proofs.BoolLaws.{differ}
 use Rattle.spec.proofs.Sums.{sumBy, All, same, same-le, same-is, same-not, compared, sum-append, sum-le, sum-add, sum-zero, sum-le-all, all-append, total, total-add, total-times, total-zero}
-use Rattle.spec.proofs.Weights.{setOf}
 
 -- ---- what is met once
 pub record MetOnce (below : ℕ → List ℕ) : Type 0 where

@@ -12,8 +12,8 @@ use lib.Seq.{getD-append-seam, append-snoc}
 use Rattle.spec.specs.Basics.{Text, ExprId, NameId}
 use Rattle.spec.specs.Steps.{_>>=_, give, asks, when, each}
 use Rattle.spec.specs.Module.{Pointer, expr, Expr, missing, Made, NameKind, Name, Module}
-use Rattle.spec.specs.State.{SetId, MergingEntry, static, source, dynamic, State, Low, newMade, allocExpr, allocMissing, allocName}
-use Rattle.spec.specs.Merge.{nestedIn}
+use Rattle.spec.specs.State.{SetId, MergingEntry, State, Low, newMade, allocExpr, allocMissing, allocName}
+use Rattle.spec.specs.Merge.{setOf, nestedIn}
 use Rattle.spec.specs.Scopes.{oneOrNone, form, exprAt, madeAt}
 use Rattle.spec.proofs.ListLaws.{length-snoc}
 use Rattle.spec.proofs.Sums.{sumBy, All, sum-zero}
@@ -25,11 +25,6 @@ upTo f zero = 0
 upTo f (suc n) = upTo f n + f n
 
 -- ---- the sets that entries name
-abbrev pub setOf : MergingEntry → SetId
-setOf (static s k x nested value) = s
-setOf (source s e) = s
-setOf (dynamic s k v) = s
-
 abbrev pub Between : ℕ → ℕ → SetId → Type 0
 Between low high t = (low ≤ t) × (t < high)
 

@@ -36,6 +36,12 @@ entryAt i st = getD (st .entries) i (source 0 0)
 unfoldable pub setAt : SetId → State → MergingSet
 setAt s st = getD (st .sets) s (record { pointer = record { kind = 0; from = 0; to = 0 }; nameKind = PlainAttrset })
 
+-- the set whose entry it is
+abbrev pub setOf : MergingEntry → SetId
+setOf (static s k x nested value) = s
+setOf (source s e) = s
+setOf (dynamic s k v) = s
+
 -- what the entry of a key has: its name, its nested set
 unfoldable pub nameIn : MergingEntry → NameId
 nameIn (static s k x nested value) = x

@@ -1,0 +1,83 @@
+-- What the text of a Float is: that of an accepted sheet's Float with flag 1 says at most 7ff0000000000000 hex. Assumes nothing.
+use mathlib.Core.Path.{_≡_, refl, sym, ap, _∙_}
+use mathlib.Core.Bool.{Bool, true, false}
+use mathlib.Core.List.{List}
+use mathlib.Core.Option.{Option, none, some}
+use Prim.Native.Nat.{ℕ, zero, suc, _≤_}
+use Prim.Native.String.{String}
+use native.Mathlib.Omega.{arith}
+use lib.ListN.{length, getD}
+use lib.Dec.{eqb, leb}
+use borrow.Author.Tests.{eqb-true, leb-true}
+use Rattle.words.specs.Order.{pick}
+use Rattle.spec.specs.Basics.{Text, NodeId, maybe}
+use Rattle.spec.specs.Kinds.{kinds, kindOf}
+use Rattle.spec.specs.Sheet.{Node, Fault, malformed, wrongText, Got, got, bad, _>>=_, give, line, field, hex, bitsFrom, isFloat, isEmpty, textFits, node, Judged, accepted, refused, readSheet}
+use Rattle.spec.specs.Tree.{nobody, nodeAt, judgeTree, judge}
+use Rattle.spec.specs.Keys.{kind, flag, text}
+use Rattle.spec.proofs.Subtrees.{and-true}
+use Rattle.spec.proofs.SheetRoom.{read, judged-same}
+use Rattle.spec.proofs.Reading.{Reads, none-left, one-more, accepted-sheet}
+
+-- what a line gave has passed its test
+field-tested : {A : Type 0} (key : String) (parse : Text → Option A) (why : Fault) (test : A → Bool) (s : List ℕ) (at : ℕ) (a : A) (to : ℕ)
+    → field key parse why test s at ≡ got a to → test a ≡ true
+unfolding field
+field-tested {A} key parse why test s at a to e =
+    let z = read _ s (line key s at) a to e in
+    parsed (parse (z .value)) (z .place) (z .rest)
+  where
+    tested : (b : A) (place : ℕ) (t : Bool) → test b ≡ t → _≡_ {A = Got A} (pick t (got b place) (bad why at)) (got a to) → test a ≡ true
+    tested b place true h e = let same : b ≡ a = cc in ap test (sym same) ∙ h
+    tested b place false h e = let z : _≡_ {A = ℕ} 0 1 = cc in absurd (omega arith)
+
+    parsed : (r : Option A) (place : ℕ) → _≡_ {A = Got A} (maybe r (bad malformed at) (λ b. pick (test b) (got b place) (bad why at))) (got a to) → test a ≡ true
+    parsed none place e = let z : _≡_ {A = ℕ} 0 1 = cc in absurd (omega arith)
+    parsed (some b) place e = tested b place (test b) refl e
+
+-- the text of a node fits its kind and its flag
+abbrev Fits : Node → Type 0
+Fits n = textFits (kindOf (n .kind) .text) (n .flag) (n .text) ≡ true
+
+node-fits : (nodes i : ℕ) (s : List ℕ) (at : ℕ) (n : Node) (to : ℕ) → node nodes i s at ≡ got n to → Fits n
+unfolding node _>>=_ give
+node-fits nodes i s at n to e =
+    let k = read _ s _ n to e in
+    let f = read _ s _ n to (k .rest) in
+    let t = read _ s _ n to (f .rest) in
+    let g = read _ s _ n to (t .rest) in
+    let c = read _ s _ n to (g .rest) in
+    let x = read _ s _ n to (c .rest) in
+    let same = ap nodeRead (x .rest) in
+    let fits = field-tested "text=" hex wrongText (textFits (kindOf (k .value) .text) (g .value)) s (c .place) (x .value) (x .place) (x .first) in
+    rw (← same) fits
+  where
+    nodeRead : Got Node → Node
+    nodeRead (got m p) = m
+    nodeRead (bad w p) = nobody
+
+-- so it is of every node, and past the last there is no text
+reads-fit : {s : List ℕ} {nodes i at end : ℕ} {ns : List Node} → Reads s nodes i at ns end → (n : NodeId) → Fits (getD ns n nobody)
+unfolding nobody kindOf kinds textFits isEmpty
+reads-fit (none-left i at) n = refl
+reads-fit {s} {nodes} (one-more i at place end m ns e r) zero = node-fits nodes i s at m place e
+reads-fit (one-more i at place end m ns e r) (suc n) = reads-fit r n
+
+-- what the rule says of a Float with flag 1
+float-fits : (k f : ℕ) (t : Text) → k ≡ 8 → f ≡ 1 → textFits (kindOf k .text) f t ≡ true → bitsFrom 0 t ≤ 9218868437227405312
+unfolding kindOf kinds textFits isFloat
+float-fits k f t p q h =
+    let fits : isFloat t ≡ true = rw (p, q) at h in
+    leb-true (bitsFrom 0 t) 9218868437227405312 (and-true (eqb (length t) 8) (leb (bitsFrom 0 t) 9218868437227405312) fits .1)
+
+-- THEOREM. The number that the text of a Float with flag 1 says is at most 7ff0000000000000 hex, the bits of infinity.
+pub floats-held : (s : List ℕ) (nodes : List Node) → judge s ≡ accepted nodes
+    → (n : NodeId) → eqb (kind nodes n) 8 ≡ true → flag nodes n ≡ 1 → bitsFrom 0 (text nodes n) ≤ 9218868437227405312
+unfolding judge judgeTree kind flag text nodeAt
+floats-held s nodes e n p q = go (readSheet s) refl e
+  where
+    go : (j : Judged) → readSheet s ≡ j → judgeTree j ≡ accepted nodes → bitsFrom 0 (text nodes n) ≤ 9218868437227405312
+    go (accepted ns) i e =
+        let r : readSheet s ≡ accepted nodes = i ∙ ap accepted (judged-same ns nodes e) in
+        float-fits (kind nodes n) (flag nodes n) (text nodes n) (eqb-true (kind nodes n) 8 p) q (reads-fit (accepted-sheet s nodes r .nodes) n)
+    go (refused number place) i e = let z : _≡_ {A = ℕ} 0 1 = cc in absurd (omega arith)
