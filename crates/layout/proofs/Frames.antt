@@ -16,12 +16,12 @@ use Rattle.spec.specs.Module.{Module}
 use Rattle.spec.specs.Lower.{moduleOf}
 use Rattle.module.specs.Ids.{pointerOf}
 use Rattle.module.specs.declared.pointer.Pointer as code-pointer
-use Rattle.layout.specs.Layout.{absent, sheetAt, textsAt, textLimit, exprsAt, exprPointersAt, itemsAt, itemLimit, namesAt, namePointersAt, diagnosticsAt, lostAt, usesAt, scopesAt, enteredAt, firstsAt, referencesAt, waitingAt, setsAt, entriesAt, exprLimit, nameLimit, diagnosticLimit, scopeLimit, referenceLimit, waitingLimit, setLimit, entryLimit, exprCount, nameCount, diagnosticCount, lostCount, entryPlace, scopeCount, waitingCount, setCount, entryCount}
+use Rattle.layout.specs.Layout.{absent, sheetAt, textsAt, textLimit, exprsAt, exprPointersAt, itemsAt, itemLimit, namesAt, namePointersAt, diagnosticsAt, lostAt, usesAt, scopesAt, enteredAt, firstsAt, referencesAt, waitingAt, setsAt, entriesAt, runAt, exprLimit, nameLimit, diagnosticLimit, scopeLimit, referenceLimit, waitingLimit, setLimit, entryLimit, exprCount, nameCount, diagnosticCount, lostCount, entryPlace, scopeCount, waitingCount, setCount, entryCount}
 use Rattle.layout.specs.Rows.{cap, rowsTo, rowsFrom}
 use Rattle.layout.specs.Changes.{Range, Outside, Wrote, Still}
 use Rattle.layout.specs.Texts.{textOf, textIn}
 use Rattle.layout.specs.Exprs.{itemOf, itemAt, itemIn, exprOf, pointerAt, firstItem, itemsOf, sortOf, madeIn}
-use Rattle.layout.specs.States.{nameIn, diagnosticIn, setIn, entryOf, entryIn, exprsOf, namesOf, diagnosticsOf, lostOf, setsOf, entriesOf, stateOf, moduleIn, waitingOf}
+use Rattle.layout.specs.States.{nameIn, diagnosticIn, setIn, entryOf, entryIn, exprsOf, namesOf, diagnosticsOf, lostOf, setsOf, entriesOf, stateOf, moduleIn, waitingOf, orderOf}
 use Rattle.layout.proofs.RowLaws.{rows-same, between-same, cap-lim}
 
 -- ---- ranges
@@ -143,11 +143,11 @@ diagnostic-same s t i e w =
       text-still s t (word s (diagnosticsAt + 28 * i)) e,
     )
 
-set-same : (s t : List ℕ) (i : ℕ) → Same s t (setsAt + 16 * i) (setsAt + 16 * i + 16) → setIn t i ≡ setIn s i
+pub set-same : (s t : List ℕ) (i : ℕ) → Same s t (setsAt + 16 * i) (setsAt + 16 * i + 16) → setIn t i ≡ setIn s i
 unfolding setIn
 set-same s t i w = rw (w (setsAt + 16 * i + 12) (omega arith) (omega arith), pointer-same s t (setsAt + 16 * i) (λ j p q. w j (omega arith) (omega arith)))
 
-entry-same : (s t : List ℕ) (i : ℕ) → Still s t → Same s t (entriesAt + 32 * i) (entriesAt + 32 * i + 32) → entryIn t i ≡ entryIn s i
+pub entry-same : (s t : List ℕ) (i : ℕ) → Still s t → Same s t (entriesAt + 32 * i) (entriesAt + 32 * i + 32) → entryIn t i ≡ entryIn s i
 unfolding entryIn entryOf
 entry-same s t i e w =
     let at = entriesAt + 32 * i in
@@ -218,3 +218,10 @@ module _ {rs : List Range} {s t : List ℕ} (w : Wrote rs s t) where
       let v = same-on 2588772 2785380 w e in
       let l = cap-lim (word s waitingCount) waitingLimit in
       rw (number-kept waitingCount c) (rows-same (λ i. itemAt t (waitingAt + 12 * i)) (λ i. itemAt s (waitingAt + 12 * i)) (cap (word s waitingCount) waitingLimit) (λ i h. item-same s t (waitingAt + 12 * i) still (λ j p q. v j (omega arith) (omega arith))))
+
+  pub order-kept : apart (40, 44) rs ≡ true → apart (2981988, 2998372) rs ≡ true → orderOf t ≡ orderOf s
+  unfolding orderOf
+  order-kept c e =
+      let v = same-on 2981988 2998372 w e in
+      let l = cap-lim (word s entryCount) entryLimit in
+      rw (number-kept entryCount c) (rows-same (λ i. word t (runAt + 4 * i)) (λ i. word s (runAt + 4 * i)) (cap (word s entryCount) entryLimit) (λ i h. v (runAt + 4 * i) (omega arith) (omega arith)))

@@ -10,7 +10,7 @@ use Rattle.spec.specs.Module.{Pointer, BindingValue, expr, inherit, inheritFrom
 use Rattle.spec.specs.State.{MergingSet, MergingEntry, static, source, dynamic, State, state}
 use Rattle.spec.specs.Lower.{moduleOf}
 use Rattle.module.specs.Kinds.{nameKindOf}
-use Rattle.layout.specs.Layout.{exprCount, nameCount, diagnosticCount, lostCount, entryPlace, waitingCount, setCount, entryCount, namesAt, namePointersAt, diagnosticsAt, lostAt, waitingAt, setsAt, entriesAt, exprLimit, nameLimit, diagnosticLimit, waitingLimit, setLimit, entryLimit}
+use Rattle.layout.specs.Layout.{exprCount, nameCount, diagnosticCount, lostCount, entryPlace, waitingCount, setCount, entryCount, namesAt, namePointersAt, diagnosticsAt, lostAt, waitingAt, setsAt, entriesAt, runAt, exprLimit, nameLimit, diagnosticLimit, waitingLimit, setLimit, entryLimit}
 use Rattle.layout.specs.Rows.{cap, rowsTo, marked}
 use Rattle.layout.specs.Texts.{textIn}
 use Rattle.layout.specs.Exprs.{Item, itemAt, pointerAt, firstItem, madeIn}
@@ -87,3 +87,7 @@ waitingOf s = rowsTo (λ i. itemAt s (waitingAt + 12 * i)) (cap (word s waitingC
 -- how many items are in use: where those of the next expression will begin
 unfoldable pub usedOf : List ℕ → ℕ
 usedOf s = firstItem s (cap (word s exprCount) exprLimit)
+
+-- the numbers of the entries, in the order of their sets and keys
+unfoldable pub orderOf : List ℕ → List ℕ
+orderOf s = rowsTo (λ i. word s (runAt + 4 * i)) (cap (word s entryCount) entryLimit)

@@ -12,7 +12,7 @@ use Rattle.layout.specs.Layout.{Long, sheetAt, exprCount, exprLimit}
 use Rattle.layout.specs.Rows.{cap, rowsTo, setAll}
 use Rattle.layout.specs.Changes.{Outside, Wrote, Still}
 use Rattle.layout.specs.Exprs.{firstItem}
-use Rattle.layout.specs.States.{exprsOf, namesOf, diagnosticsOf, lostOf, setsOf, entriesOf, stateOf, waitingOf, usedOf}
+use Rattle.layout.specs.States.{exprsOf, namesOf, diagnosticsOf, lostOf, setsOf, entriesOf, stateOf, waitingOf, usedOf, orderOf}
 use Rattle.store.specs.Work.{workOf, noWork, clearing, Fine, Cleared}
 use Rattle.layout.proofs.RowLaws.{cap-le}
 use Rattle.layout.proofs.WriteLaws.{still-setWord, still-all, still-then, Small, length-all, all-other, all-at}
@@ -36,7 +36,7 @@ zero-at s at i j h q l = all-at s at zeros small (omega arith) i j h q ∙ zero-
 
 -- with no row in use
 work-none : (t : List ℕ) → word t 0 ≡ 0 → word t 4 ≡ 0 → word t 8 ≡ 0 → word t 12 ≡ 0 → word t 32 ≡ 0 → word t 36 ≡ 0 → word t 40 ≡ 0 → word t 64 ≡ 0 → workOf t ≡ noWork
-unfolding workOf noWork stateOf exprsOf namesOf diagnosticsOf lostOf setsOf entriesOf waitingOf usedOf firstItem cap rowsTo
+unfolding workOf noWork stateOf exprsOf namesOf diagnosticsOf lostOf setsOf entriesOf waitingOf usedOf orderOf firstItem cap rowsTo
 work-none t a b c d e f g h = rw (a, b, c, d, e, f, g, h)
 
 fine-none : (t : List ℕ) → word t 0 ≡ 0 → word t 64 ≡ 0 → Fine t

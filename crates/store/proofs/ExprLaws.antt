@@ -28,12 +28,12 @@ use Rattle.layout.specs.Rows.{cap, rowsTo, rowsFrom, setAll}
 use Rattle.layout.specs.Changes.{Range, Outside, Wrote, Still}
 use Rattle.layout.specs.Texts.{textIn}
 use Rattle.layout.specs.Exprs.{Item, itemOf, itemAt, itemIn, exprOf, pointerAt, pointerOr, firstItem, itemsOf, sortOf, madeIn}
-use Rattle.layout.specs.States.{exprsOf, namesOf, diagnosticsOf, lostOf, setsOf, entriesOf, stateOf, waitingOf, usedOf}
+use Rattle.layout.specs.States.{exprsOf, namesOf, diagnosticsOf, lostOf, setsOf, entriesOf, stateOf, waitingOf, usedOf, orderOf}
 use Rattle.module.specs.declared.expr.Expr.{Expr}
 use Rattle.store.specs.Codes.{rowMade, exprMade, holeMade, Says}
 use Rattle.store.specs.Work.{Work, workOf, takeRow, takeLone, pushItem, lowering, Fine, Did, Took, PutRow}
 use Rattle.layout.proofs.RowLaws.{rows-same, length-rows, rows-take, rows-drop, between-same, cap-le, cap-over, cap-lim}
-use Rattle.layout.proofs.Frames.{Same, apart, same-on, wrote-then, run-still, text-still, pointer-same, item-same, items-same, made-same, own-items-same, number-kept, exprs-kept, names-kept, diagnostics-kept, lost-kept, sets-kept, entries-kept, waiting-kept}
+use Rattle.layout.proofs.Frames.{Same, apart, same-on, wrote-then, run-still, text-still, pointer-same, item-same, items-same, made-same, own-items-same, number-kept, exprs-kept, names-kept, diagnostics-kept, lost-kept, sets-kept, entries-kept, waiting-kept, order-kept}
 use Rattle.layout.proofs.WriteLaws.{still-splice, still-setWord, still-all, still-then, Small, length-all, all-other, all-is, all-at}
 
 -- ---- counts
@@ -320,7 +320,7 @@ module _ (s u t : List ℕ) (base count first n : ℕ) (r : Row) (p : Pointer) (
         let a : length (stateOf s .exprs) ≡ n = expr-length ∙ counted in
         let l : ltb n exprLimit ≡ true = lt-ltb n exprLimit few in
         let m : leb (first + count) itemLimit ≡ true = le-leb (first + count) itemLimit room in
-        rw (a, l, used-is, ← size, m, state-more, waiting-cut, used-after)
+        rw (a, l, used-is, ← size, m, state-more, waiting-cut, used-after, order-kept alloc-wrote refl refl)
 
   pub row-allocated : Did (takeRow (rowMade s r p) base) s n t
   row-allocated = record { wrote = own-lowering alloc-wrote; still = alloc-still; does = λ fine. (alloc-is fine, fine-after fine) }
@@ -410,6 +410,7 @@ item-pushed s u t i r n at long says small e few ea eu et =
           sets-kept wrote refl refl,
           entries-kept wrote still refl refl,
           used-kept wrote refl refl,
+          order-kept wrote refl refl,
         ),
         fine-kept wrote refl refl fine,
       );

@@ -23,10 +23,10 @@ use Rattle.layout.specs.Rows.{cap, rowsTo, setAll}
 use Rattle.layout.specs.Changes.{Range, Outside, Wrote, Still}
 use Rattle.layout.specs.Texts.{textIn}
 use Rattle.layout.specs.Exprs.{pointerAt}
-use Rattle.layout.specs.States.{nameIn, diagnosticIn, exprsOf, namesOf, diagnosticsOf, lostOf, setsOf, entriesOf, stateOf, waitingOf, usedOf}
+use Rattle.layout.specs.States.{nameIn, diagnosticIn, exprsOf, namesOf, diagnosticsOf, lostOf, setsOf, entriesOf, stateOf, waitingOf, usedOf, orderOf}
 use Rattle.store.specs.Work.{Work, workOf, withState, nameWith, putName, putDuplicate, lowering, Fine, Did, PutDiagnostic}
 use Rattle.layout.proofs.RowLaws.{rows-same, length-rows, cap-le, cap-over, cap-lim}
-use Rattle.layout.proofs.Frames.{Same, apart, same-on, text-still, pointer-same, name-same, diagnostic-same, number-kept, exprs-kept, names-kept, diagnostics-kept, lost-kept, sets-kept, entries-kept, waiting-kept}
+use Rattle.layout.proofs.Frames.{Same, apart, same-on, text-still, pointer-same, name-same, diagnostic-same, number-kept, exprs-kept, names-kept, diagnostics-kept, lost-kept, sets-kept, entries-kept, waiting-kept, order-kept}
 use Rattle.layout.proofs.WriteLaws.{still-setWord, still-all, still-then, Small, length-all, all-other, all-at}
 use Rattle.store.proofs.ExprLaws.{fits-not, nothing-done, fine-kept, used-kept}
 
@@ -90,6 +90,7 @@ name-put s u v t k p text number n at to long e few en ht hn hp ea et eu ev ew =
           entries-kept wrote still refl refl,
           waiting-kept wrote still refl refl,
           used-kept wrote refl refl,
+          order-kept wrote refl refl,
         ),
         fine-kept wrote refl refl fine,
       );
@@ -197,6 +198,7 @@ duplicate-put s u v t first second key n m at long en few em fewer hp ea put ev 
           entries-kept wrote still refl refl,
           waiting-kept wrote still refl refl,
           used-kept wrote refl refl,
+          order-kept wrote refl refl,
         ),
         fine-kept wrote refl refl fine,
       );

@@ -15,30 +15,32 @@ use Rattle.layout.specs.Layout.{exprCount, entryPlace, scopeCount, spentPlace, 
 use Rattle.layout.specs.Rows.{cap}
 use Rattle.layout.specs.Changes.{Range, Wrote, Still}
 use Rattle.layout.specs.Exprs.{Item, itemAt, itemIn, firstItem, sortOf, pointerAt}
-use Rattle.layout.specs.States.{stateOf, waitingOf, usedOf}
+use Rattle.layout.specs.States.{stateOf, waitingOf, usedOf, orderOf}
 
--- the module so far and the open sets; the items that wait for their expression; how many items are in use
+-- the module so far and the open sets; the items that wait for their expression; how many items are in use; the run: the numbers of the open sets' entries, in the
+-- order of sets and keys
 pub record Work : Type 0 where
   pub lowered : State
   pub waiting : List Item
   pub used : ℕ
+  pub order : List ℕ
 
 unfoldable pub workOf : List ℕ → Work
-workOf s = record { lowered = stateOf s; waiting = waitingOf s; used = usedOf s }
+workOf s = record { lowered = stateOf s; waiting = waitingOf s; used = usedOf s; order = orderOf s }
 
 abbrev pub Working : Type 0 → Type 0
 Working A = Step Work A
 
 -- ---- steps
 unfoldable pub withState : Work → State → Work
-withState w st = record { lowered = st; waiting = w .waiting; used = w .used }
+withState w st = record { lowered = st; waiting = w .waiting; used = w .used; order = w .order }
 
 -- An expression whose items are those that wait from `base` on.
 unfoldable pub takeRow : (List Item → Made) → ℕ → Working ExprId
 takeRow make base w =
     let is = drop base (w .waiting) in
     if ltb (length (w .lowered .exprs)) exprLimit && leb (w .used + length is) itemLimit then
-    (length (w .lowered .exprs), record { lowered = newMade (make is) (w .lowered) .1; waiting = take base (w .waiting); used = w .used + length is })
+    (length (w .lowered .exprs), record { lowered = newMade (make is) (w .lowered) .1; waiting = take base (w .waiting); used = w .used + length is; order = w .order })
     else (exprLimit, w)
 
 -- an expression without items, which leaves those that wait
@@ -47,7 +49,7 @@ takeLone make w = takeRow make (length (w .waiting)) w
 
 unfoldable pub pushItem : Item → Working (Unit {0})
 pushItem i w =
-    if ltb (length (w .waiting)) waitingLimit then (tt, record { lowered = w .lowered; waiting = w .waiting ++ (i ∷ []); used = w .used })
+    if ltb (length (w .waiting)) waitingLimit then (tt, record { lowered = w .lowered; waiting = w .waiting ++ (i ∷ []); used = w .used; order = w .order })
     else (tt, w)
 
 unfoldable pub nameWith : Text → NameKind → Pointer → Name
@@ -114,7 +116,7 @@ pub record PutDiagnostic (n key : ℕ) (first second : Pointer) (s t : List ℕ)
 
 -- ---- a store with nothing in it
 unfoldable pub noWork : Work
-noWork = record { lowered = empty; waiting = []; used = 0 }
+noWork = record { lowered = empty; waiting = []; used = 0; order = [] }
 
 -- what emptying a store writes: the header, and where the lists of the first rows begin
 unfoldable pub clearing : List Range
