@@ -3,7 +3,7 @@
 from the lines that `rt dev` prints for the cycle (PRINTED), the generated Lts (GENDIR, of `rt dev NAME --generated GENDIR`)
 and the answers. In an answer `@THING` is the path from c to the record of that thing, and `@start` the path to the entry."""
 import sys,re,os
-from lts import paths
+from lts import paths as paths_in
 printed,gendir,cratedir,answers=sys.argv[1:5]
 src=open(printed).read()
 crate=os.path.basename(os.path.normpath(cratedir))
@@ -30,7 +30,7 @@ invs=list(re.finditer(r'^abbrev (\S+)-((?:Inv|μ)-\S+) : (\S+)-lts\.(\S+)\n(\S+)
 def under(n): return n.replace('-','_')
 def lts_paths(member):
     t=open(f'{gendir}/Rattle.{crate}.proofs/{folder}{cyc}/Lts-{under(member)}.antt').read()
-    return paths(t)
+    return paths_in(t)
 dst=f'{cratedir}/{folder}{cyc}'
 os.makedirs(f'{dst}/Proof',exist_ok=True)
 def camel(n): return ''.join(x.capitalize() for x in n.split('-'))

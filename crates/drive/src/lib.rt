@@ -9,6 +9,7 @@ ghost use Rattle.drive.specs.Drive.{numberOf, wordOf, replyWith};
 
 mod bring;
 mod keeps;
+mod lowers;
 mod stores;
 
 pub use bring::drive_bring;
@@ -22,6 +23,7 @@ pub use keeps::drive_root;
 pub use keeps::drive_scope;
 pub use keeps::drive_scopes;
 pub use keeps::drive_with;
+pub use lowers::drive_lower;
 use sheet::SheetRead;
 pub use stores::drive_clear;
 pub use stores::drive_condition;

@@ -1,0 +1,21 @@
+-- `drive::lowers::drive_lower` meets its contract. Written by a script from tools/answers_drive.txt. Assumes nothing.
+use native.Mathlib.Omega.{arith}
+use borrow.Author.Needs.{needs}
+use Rattle.drive.proofs.StoreLaws.{done, undone}
+use Rattle.drive.proofs.lowers.drive_lower.Statement.{statement}
+use Rattle.drive.proofs.lowers.drive_lower.Tie as tie
+
+lower-requires : tie.Need-lower-requires
+lower-requires c κs = omega (arith, c .before .if1 .taken)
+
+same-length : tie.Need-same-length
+same-length c = search needs
+
+returns : tie.Need-returns
+returns c = done (omega (arith, c .before .before .before .before .if1 .taken)) (c .before .before .lower .ensures)
+
+returns-2 : tie.Need-returns-2
+returns-2 c = undone (omega (arith, c .if1 .left))
+
+pub drive-lower-spec : {M : Type 1} → statement M
+drive-lower-spec = tie.close (tie.spec lower-requires same-length returns returns-2)

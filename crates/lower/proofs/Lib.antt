@@ -1,0 +1,17 @@
+pub mod SizeLaws
+pub mod TurnLaws
+pub mod WaitLaws
+pub mod ExprLaws
+pub mod ListedLaws
+pub mod LambdaLaws
+pub mod Opens
+pub mod KeySizes
+pub mod InnerLaws
+pub mod MergeLaws
+pub mod BindingLaws
+pub mod ReadLaws
+pub mod LeafLaws
+pub mod KindLaws
+pub mod ModuleLaws
+pub mod Loops
+pub mod LoopLaws

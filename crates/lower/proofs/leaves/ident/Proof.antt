@@ -1,0 +1,54 @@
+-- `lower::leaves::ident` meets its contract. Written by a script from tools/answers_lower.txt. Assumes nothing.
+use native.Mathlib.Omega.{arith}
+use borrow.Author.Needs.{needs}
+use Rattle.lower.proofs.LeafLaws.{ident-taken, ident-hole}
+use Rattle.store.specs.Codes.{ValidExpr}
+use Rattle.lower.proofs.leaves.ident.Statement.{statement}
+use Rattle.lower.proofs.leaves.ident.Tie as tie
+
+node-pointer-requires : tie.Need-node-pointer-requires
+node-pointer-requires c κs = search needs
+
+name-of-ident-requires : tie.Need-name-of-ident-requires
+name-of-ident-requires c κs = search needs
+
+enum-known-t : tie.Need-enum-known-t
+enum-known-t c = search needs
+
+alloc-lone-requires : tie.Need-alloc-lone-requires
+unfolding ValidExpr
+alloc-lone-requires c κs = (omega arith, tt)
+
+enum-told : tie.Need-enum-told
+enum-told c = search needs
+
+alloc-lone-requires-2 : tie.Need-alloc-lone-requires-2
+unfolding ValidExpr
+alloc-lone-requires-2 c κs = (omega arith, tt)
+
+same-length : tie.Need-same-length
+same-length c = search needs
+
+returns : tie.Need-returns
+returns c = ident-taken _ _ _ (c .before .before .before .before .before .before .before .before .before .node-pointer .ensures) _ (c .before .before .before .before .before .before .before .name-of-ident .ensures) _ (c .before .before .before .before .before .t .given .1) (c .before .before .alloc-lone .ensures)
+
+same-length-2 : tie.Need-same-length-2
+same-length-2 c = search needs
+
+returns-2 : tie.Need-returns-2
+returns-2 c = ident-hole _ _ _ (c .before .before .before .before .before .before .before .before .node-pointer .ensures) _ (c .before .before .before .before .before .before .name-of-ident .ensures) (c .before .before .before .before .enum-told .given .1) (c .before .before .alloc-lone2 .ensures)
+
+pub ident-spec : {M : Type 1} → statement M
+ident-spec =
+    tie.close
+    (tie.spec
+    node-pointer-requires
+    name-of-ident-requires
+    enum-known-t
+    alloc-lone-requires
+    enum-told
+    alloc-lone-requires-2
+    same-length
+    returns
+    same-length-2
+    returns-2)

@@ -1,0 +1,25 @@
+-- `lower::leaves::missing_node` meets its contract. Written by a script from tools/answers_lower.txt. Assumes nothing.
+use native.Mathlib.Omega.{arith}
+use borrow.Author.Needs.{needs}
+use Rattle.lower.proofs.LeafLaws.{pointed}
+use Rattle.store.specs.Codes.{exprWith, ValidExpr}
+use Rattle.lower.proofs.leaves.missing_node.Statement.{statement}
+use Rattle.lower.proofs.leaves.missing_node.Tie as tie
+
+node-pointer-requires : tie.Need-node-pointer-requires
+node-pointer-requires c κs = search needs
+
+alloc-lone-requires : tie.Need-alloc-lone-requires
+unfolding ValidExpr
+alloc-lone-requires c κs = (omega arith, tt)
+
+same-length : tie.Need-same-length
+same-length c = search needs
+
+returns : tie.Need-returns
+unfolding exprWith
+returns c = pointed _ _ _ (c .before .before .before .before .node-pointer .ensures) _ (c .before .before .alloc-lone .ensures)
+
+pub missing-node-spec : {M : Type 1} → statement M
+missing-node-spec =
+    tie.close (tie.spec node-pointer-requires alloc-lone-requires same-length returns)

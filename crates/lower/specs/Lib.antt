@@ -1,0 +1,4 @@
+pub mod Sizes
+pub mod Reads
+pub mod Parts
+pub mod Whole

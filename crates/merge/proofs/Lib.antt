@@ -1,0 +1,9 @@
+pub mod Steps
+pub mod Allocs
+pub mod MergeSteps
+pub mod SetSteps
+pub mod KeySteps
+pub mod InheritSteps
+pub mod Items
+pub mod FinishSteps
+pub mod FinishLaws

@@ -1,0 +1,4 @@
+pub mod Room
+pub mod Lowers
+pub mod Merges
+pub mod Finishes

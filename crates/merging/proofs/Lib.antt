@@ -1,0 +1,16 @@
+pub mod RankOrder
+pub mod Inserting
+pub mod Halving
+pub mod Passing
+pub mod RankLaws
+pub mod RankChanges
+pub mod RankFind
+pub mod RankSegment
+pub mod EntryLaws
+pub mod RunReads
+pub mod RunFinds
+pub mod RunSets
+pub mod RunFirsts
+pub mod RunAdds
+pub mod ChangeLaws
+pub mod SetLaws

@@ -1,0 +1,4 @@
+pub mod Ranks
+mod Examples
+pub mod Entries
+pub mod Run

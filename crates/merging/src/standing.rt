@@ -1,0 +1,61 @@
+// Where an entry stands in the run: its set decides, then its class, then its key.
+ghost use mathlib.Core.Path.{_≡_};
+ghost use Rattle.words.specs.Order.{order};
+ghost use Rattle.layout.specs.Layout.{Long};
+ghost use Rattle.merging.specs.Run.{standingWith, Stands};
+use crate::entry::Entry;
+use intake::compare_texts;
+use module::TextId;
+use words::Order;
+
+// The mark is the empty text.
+pub const NO_TEXT: u32 = 4294967295;
+
+pub struct Standing {
+    pub set: u32,
+    // 0 static, 1 source, 2 dynamic.
+    pub class: u32,
+    pub key: TextId,
+}
+
+// Sources and dynamics have no key.
+pub fn standing_of(e: Entry) -> Standing
+    ensures { λ r. ⌜ Stands r e ⌝ }
+{
+    match e {
+        Entry::Static(s, key, _, _, _) => Standing {
+            set: s.0,
+            class: 0,
+            key,
+        },
+        Entry::Source(s, _) => Standing {
+            set: s.0,
+            class: 1,
+            key: TextId(NO_TEXT),
+        },
+        Entry::Dynamic(s, _, _) => Standing {
+            set: s.0,
+            class: 2,
+            key: TextId(NO_TEXT),
+        },
+    }
+}
+
+pub fn compare_standings(store: &[u8], x: Standing, y: Standing) -> Order
+    requires { ⌜ Long (now store) ⌝ }
+    ensures { λ r. ⌜ r ≡ order (standingWith (now (store .entry)) x) (standingWith (now (store .entry)) y) ⌝ }
+{
+    if x.set < y.set {
+        return Order::Less;
+    }
+    if y.set < x.set {
+        return Order::Greater;
+    }
+    if x.class < y.class {
+        return Order::Less;
+    }
+    if y.class < x.class {
+        return Order::Greater;
+    }
+    compare_texts(store, x.key, y.key)
+}
