@@ -32,6 +32,7 @@ mod raw {
         pub fn drive_reference(store: *mut u8, length: usize, name: u32, i: u32, e: u32);
         pub fn drive_ended(store: *mut u8, length: usize, name: u32, n: u32);
         pub fn drive_bring(sheet: *const u8, sheet_length: usize, store: *mut u8, length: usize) -> u32;
+        pub fn drive_lower(store: *mut u8, length: usize);
     }
 }
 
@@ -150,4 +151,9 @@ pub fn ended(store: &mut [u8], name: u32, n: u32) {
 /// Brings a sheet's nodes and texts into the store; 1 where that was done.
 pub fn bring(sheet: &[u8], store: &mut [u8]) -> u32 {
     unsafe { raw::drive_bring(sheet.as_ptr(), sheet.len(), store.as_mut_ptr(), store.len()) }
+}
+
+/// Lowers the nodes of a sheet that was brought into a cleared store. Nodes that are no tree can take time without end.
+pub fn lower(store: &mut [u8]) {
+    unsafe { raw::drive_lower(store.as_mut_ptr(), store.len()) }
 }

@@ -1,8 +1,9 @@
-//! Runs of the compiled Rattle code, through the static library of crates/drive: against the oracle's checker, against a reader and a
-//! check that were written from docs/STORE.md, and against the clock.
+//! Runs of the compiled Rattle code, through the static library of crates/drive: against the oracle's checker and the Rust's lowering,
+//! against a reader and a check that were written from docs/STORE.md, and against the clock.
 
 mod compare;
 mod drive;
+mod lower;
 mod speed;
 #[cfg(feature = "stand-in")]
 mod stand_in;
@@ -14,7 +15,10 @@ const USAGE: &str = "host judge DAMAGED VALID [SEED]   so many damaged and valid
 host speed                        nanoseconds for each byte of a sheet
 host store FILLS DAMAGED [SEED]   so many modules built in a store and read back, and so many damaged stores, judged by both sides
 host store-speed                  nanoseconds for each byte of a store that is checked
-host bring SHEETS [SEED]          so many sheets brought into a store and read back";
+host bring SHEETS [SEED]          so many sheets brought into a store and read back
+host lower COUNT MAXNODES [SEED]  so many random sheets of up to so many nodes, and those that need care, lowered by both sides
+host lower-speed                  microseconds for lowering, beside the Rust's
+host lower-stack                  bytes of stack that lowering the deepest sheets takes";
 
 fn main() -> ExitCode {
     let words: Vec<String> = std::env::args().skip(1).collect();
@@ -49,6 +53,13 @@ fn run(words: &[&str]) -> Result<bool, String> {
             let numbers = numbers(1)?;
             Ok(store::bring::run(numbers[0], numbers.get(1).copied().unwrap_or(0)))
         }
+        ["lower", _, _] | ["lower", _, _, _] => {
+            let numbers = numbers(1)?;
+            let most = numbers[1].try_into().unwrap_or(usize::MAX);
+            lower::compare::run(numbers[0], most, numbers.get(2).copied().unwrap_or(0))
+        }
+        ["lower-speed"] => lower::speed::run().map(|()| true),
+        ["lower-stack"] => lower::stack::run().map(|()| true),
         _ => Err(USAGE.to_string()),
     }
 }

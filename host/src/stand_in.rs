@@ -3,6 +3,10 @@
 
 #![allow(clippy::missing_safety_doc, clippy::too_many_arguments)]
 
+mod lower;
+
+pub use lower::drive_lower;
+
 use crate::store::layout::{self, get, header, put, Table, NONE};
 use crate::store::page;
 use sheet::check::check;

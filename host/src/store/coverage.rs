@@ -37,9 +37,13 @@ impl Coverage {
         }
     }
 
-    pub fn print(&self) {
+    pub fn print_sorts(&self) {
         println!("expressions of sorts 0 to 28: {:?}", self.sorts);
         println!("items of tags 0 to 9: {:?}", self.tags);
+    }
+
+    pub fn print(&self) {
+        self.print_sorts();
         println!("tables at their limits (expressions, items, names, diagnostics, lost, scopes, entered, kept): {:?}", self.limits);
     }
 }

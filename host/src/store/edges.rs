@@ -38,6 +38,7 @@ const OTHERS: &[(&str, Other)] = &[
     ("references", |store| drive::references(store)),
     ("reference", |store| drive::reference(store, 0, 0, 0)),
     ("ended", |store| drive::ended(store, 0, 1)),
+    ("lower", |store| drive::lower(store)),
 ];
 
 /// Every call on stores of too few bytes returns that nothing was done, and writes nothing.

@@ -17,6 +17,8 @@ pub mod header {
     pub const SPENT: usize = 24;
     pub const TEXTS: usize = 28;
     pub const WAITING: usize = 32;
+    pub const OPEN_SETS: usize = 36;
+    pub const OPEN_ENTRIES: usize = 40;
     pub const END: usize = 64;
 }
 

@@ -5,20 +5,22 @@
 //! - `sound`: the check of 21, 22 and 23.
 //! - `model`: random modules; `encode`, `build`: their words and the calls that put them into a store.
 //! - `sites`, `damage`: which words may be what, and changes to them.
+//! - `same`: where two modules differ.
 //! - `runs`, `edges`, `bring`, `speed`: what the commands run; `coverage`: what the modules of a run had in them.
 
 pub mod bring;
 mod build;
-mod coverage;
+pub mod coverage;
 mod damage;
 mod edges;
-mod encode;
+pub mod encode;
 pub mod layout;
 mod model;
 pub mod module;
-mod nodes;
+pub mod nodes;
 pub mod page;
 pub mod runs;
+pub mod same;
 mod sites;
 mod sound;
 pub mod speed;
@@ -30,21 +32,21 @@ const UNWRITTEN: u8 = 0xa5;
 const MARGIN: usize = 64;
 
 /// A store to lend, which goes on a little past its last byte and lies between bytes that no call may write.
-struct Lent {
+pub struct Lent {
     bytes: Vec<u8>,
 }
 
 impl Lent {
-    fn new() -> Self {
+    pub fn new() -> Self {
         Lent { bytes: vec![UNWRITTEN; layout::BYTES + 3 * MARGIN] }
     }
 
-    fn store(&mut self) -> &mut [u8] {
+    pub fn store(&mut self) -> &mut [u8] {
         &mut self.bytes[MARGIN..layout::BYTES + 2 * MARGIN]
     }
 
     /// Fills the store with what may be left in it from anywhere.
-    fn soil(&mut self, rng: &mut Rng) {
+    pub fn soil(&mut self, rng: &mut Rng) {
         let sort = rng.below(4);
         for four in self.bytes[MARGIN..layout::BYTES + MARGIN].chunks_exact_mut(4) {
             let word = match sort {
@@ -58,7 +60,7 @@ impl Lent {
     }
 
     /// Whether the bytes about the store are as they were.
-    fn margins_stand(&self) -> bool {
+    pub fn margins_stand(&self) -> bool {
         let (before, after) = (&self.bytes[..MARGIN], &self.bytes[layout::BYTES + MARGIN..]);
         before.iter().chain(after).all(|&byte| byte == UNWRITTEN)
     }

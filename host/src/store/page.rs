@@ -10,29 +10,14 @@ pub type Read<T> = Result<T, String>;
 /// Reads a whole store.
 pub fn read(bytes: &[u8]) -> Read<Module<'_>> {
     let page = Page::open(bytes)?;
-    let mut module = Module { spent: page.word(header::SPENT)?, texts: page.texts, ..Module::default() };
-    let items = page.lists(layout::EXPRS, page.exprs, layout::ITEMS)?;
-    for e in 0..page.exprs {
-        module.exprs.push(page.placed(e, &items[e as usize])?);
-    }
-    let kept = page.lists(layout::REFERENCES, page.names, layout::KEPT)?;
-    for n in 0..page.names {
-        module.names.push(page.name(n, &kept[n as usize])?);
-    }
-    for d in 0..page.count(header::DIAGNOSTICS, layout::DIAGNOSTICS)? {
-        module.diagnostics.push(page.duplicate(d)?);
-    }
-    for l in 0..page.count(header::LOST, layout::LOST)? {
-        module.lost.push(page.pointer(layout::LOST, l, 0)?);
-    }
-    if page.exprs > 0 {
-        module.entry = Some(page.expr(page.word(header::ENTRY)?)?);
-    }
-    let entered = page.lists(layout::SCOPES, page.scopes, layout::ENTERED)?;
-    for s in 0..page.scopes {
-        module.scopes.push(page.scope(s, &entered[s as usize])?);
-    }
+    let mut module = page.lowered()?;
+    page.keep(&mut module)?;
     Ok(module)
+}
+
+/// Reads what lowering makes. Scopes, answers and references come later; they are left out, and their tables may hold anything.
+pub fn lowered(bytes: &[u8]) -> Read<Module<'_>> {
+    Page::open(bytes)?.lowered()
 }
 
 /// The rows of a list, by their numbers.
@@ -59,6 +44,44 @@ impl<'a> Page<'a> {
         let spent = at_most(page.word(header::SPENT)?, layout::SPENT_LIMIT, "spent bytes")?;
         page.texts = at_most(page.word(header::TEXTS)?, layout::TEXTS_UNSPENT + 5 * spent as usize, "bytes of texts")?;
         Ok(page)
+    }
+
+    fn lowered(&self) -> Read<Module<'a>> {
+        let mut module = Module { spent: self.word(header::SPENT)?, texts: self.texts, ..Module::default() };
+        let items = self.lists(layout::EXPRS, self.exprs, layout::ITEMS)?;
+        for e in 0..self.exprs {
+            module.exprs.push(self.placed(e, &items[e as usize])?);
+        }
+        for n in 0..self.names {
+            module.names.push(self.name(n)?);
+        }
+        for d in 0..self.count(header::DIAGNOSTICS, layout::DIAGNOSTICS)? {
+            module.diagnostics.push(self.duplicate(d)?);
+        }
+        for l in 0..self.count(header::LOST, layout::LOST)? {
+            module.lost.push(self.pointer(layout::LOST, l, 0)?);
+        }
+        if self.exprs > 0 {
+            module.entry = Some(self.expr(self.word(header::ENTRY)?)?);
+        }
+        Ok(module)
+    }
+
+    /// What a store keeps beside the lowered module: scopes, answers and references.
+    fn keep(&self, module: &mut Module) -> Read<()> {
+        for (e, placed) in (0..).zip(&mut module.exprs) {
+            placed.scope = one_less(self.field(layout::USES, e, 0)?, self.scopes, "scope")?;
+            placed.answer = self.answer(self.field(layout::USES, e, 1)?)?;
+        }
+        let kept = self.lists(layout::REFERENCES, self.names, layout::KEPT)?;
+        for (name, kept) in module.names.iter_mut().zip(kept) {
+            name.references = kept.map(|k| self.expr(self.field(layout::KEPT, k, 0)?)).collect::<Read<_>>()?;
+        }
+        let entered = self.lists(layout::SCOPES, self.scopes, layout::ENTERED)?;
+        for s in 0..self.scopes {
+            module.scopes.push(self.scope(s, &entered[s as usize])?);
+        }
+        Ok(())
     }
 
     fn word(&self, at: usize) -> Read<u32> {
@@ -124,9 +147,7 @@ impl<'a> Page<'a> {
     fn placed(&self, e: u32, items: &Rows) -> Read<Placed<'a>> {
         let expr = Row { page: self, e, items }.expr()?;
         let pointer = if expr == Expr::Hole { None } else { Some(self.pointer(layout::EXPR_POINTERS, e, 0)?) };
-        let scope = one_less(self.field(layout::USES, e, 0)?, self.scopes, "scope")?;
-        let answer = self.answer(self.field(layout::USES, e, 1)?)?;
-        Ok(Placed { expr, pointer, scope, answer })
+        Ok(Placed { expr, pointer, scope: None, answer: Answer::None })
     }
 
     fn answer(&self, word: u32) -> Read<Answer> {
@@ -138,11 +159,10 @@ impl<'a> Page<'a> {
         })
     }
 
-    fn name(&self, n: u32, kept: &Rows) -> Read<Name<'a>> {
+    fn name(&self, n: u32) -> Read<Name<'a>> {
         let text = self.text(self.field(layout::NAMES, n, 0)?)?;
         let kind = below(self.field(layout::NAMES, n, 1)?, 5, "kind of name")?;
-        let references = kept.clone().map(|k| self.expr(self.field(layout::KEPT, k, 0)?)).collect::<Read<_>>()?;
-        Ok(Name { text, kind, pointer: self.pointer(layout::NAME_POINTERS, n, 0)?, references })
+        Ok(Name { text, kind, pointer: self.pointer(layout::NAME_POINTERS, n, 0)?, references: Vec::new() })
     }
 
     fn duplicate(&self, d: u32) -> Read<Duplicate<'a>> {

@@ -6,12 +6,12 @@ use super::damage::{damaged, kind, Damage, Damager, Must, KINDS};
 use super::layout::{self, header, put};
 use super::model::{self, Size};
 use super::module::Module;
+use super::same::same_module;
 use super::sound::condition;
 use super::{edges, page, Lent};
 use crate::drive;
 use generate::Rng;
 use std::collections::BTreeMap;
-use std::fmt::Debug;
 
 /// The numbers that a check can give, in the order of the columns.
 const CONDITIONS: [u32; 4] = [0, 21, 22, 23];
@@ -183,32 +183,5 @@ fn print_row(kind: &str, seen: [u64; 4]) {
 
 /// Whether the store holds the module, by the reader.
 pub fn holds(store: &[u8], module: &Module) -> Result<(), String> {
-    let read = page::read(store)?;
-    if read == *module {
-        return Ok(());
-    }
-    same_list("expression", &read.exprs, &module.exprs)?;
-    same_list("name", &read.names, &module.names)?;
-    same_list("diagnostic", &read.diagnostics, &module.diagnostics)?;
-    same_list("lost entry", &read.lost, &module.lost)?;
-    same_list("scope", &read.scopes, &module.scopes)?;
-    same("entry", &read.entry, &module.entry)?;
-    same("spent bytes", &read.spent, &module.spent)?;
-    same("bytes of texts", &read.texts, &module.texts)
-}
-
-fn same_list<T: PartialEq + Debug>(what: &str, read: &[T], right: &[T]) -> Result<(), String> {
-    same(&format!("count of {what}s"), &read.len(), &right.len())?;
-    let both = read.iter().zip(right).enumerate();
-    both.into_iter().try_for_each(|(i, (read, right))| same(&format!("{what} {i}"), read, right))
-}
-
-fn same<T: PartialEq + Debug>(what: &str, read: &T, right: &T) -> Result<(), String> {
-    // Some texts are too long to print.
-    let show = |one: &T| format!("{one:?}").chars().take(300).collect::<String>();
-    if read == right {
-        Ok(())
-    } else {
-        Err(format!("{what} is read as {} and not as {}", show(read), show(right)))
-    }
+    same_module(&page::read(store)?, module)
 }

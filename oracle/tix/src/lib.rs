@@ -35,6 +35,11 @@ impl Tix {
         Tix { module, source_map }
     }
 
+    /// What lowering alone makes, with the texts as they now read.
+    pub fn module(&self) -> canon::Module {
+        convert::module(&self.module, &self.source_map)
+    }
+
     /// The scopes and the answers for the texts as they now read.
     fn resolve(&self) -> (ModuleScopes, NameResolution) {
         let scopes = ModuleScopes::new(&self.module);
@@ -71,7 +76,7 @@ impl Reading for Tix {
     fn facts(&self) -> Facts {
         let (scopes, answers) = self.resolve();
         Facts {
-            module: convert::module(&self.module, &self.source_map),
+            module: self.module(),
             scopes: convert::scopes(&self.module, &scopes),
             resolution: convert::resolution(&self.module, &answers),
         }
