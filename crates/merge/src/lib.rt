@@ -1,4 +1,7 @@
-// Merging: impl MergingSet of lower.rs.
+// Merging: impl MergingSet of lower.rs, but for what lowers a value.
+//
+// It knows no byte offset. Here too is how a step of the code is a step of the definitions, and what
+// it may take of a store's room (specs/).
 mod finish;
 mod inherit;
 mod merge;
