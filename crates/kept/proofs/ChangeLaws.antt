@@ -27,6 +27,7 @@ use Rattle.layout.specs.Texts.{textIn}
 use Rattle.layout.specs.Exprs.{Item, wide, pointerAt, pointerOr, floatOr, integerOr, exprOf, sortOf, madeIn, itemsOf}
 use Rattle.layout.specs.States.{nameIn, exprsOf, namesOf, stateOf, moduleIn}
 use Rattle.layout.specs.Keeps.{scopesIn, answerIn, referencesOf, keptIn}
+use Rattle.kept.proofs.UseLaws.{made-at, reference-made, text-past, text-other, text-there}
 use Rattle.kept.specs.TextChanges.{withModule, Renamed, whereText, setIfReference, Reworded, Spent}
 use Rattle.layout.proofs.RowLaws.{length-rows, getD-rows, getD-past, rows-put, rows-same, cap-lim}
 use Rattle.layout.proofs.Frames.{Same, apart, number-kept, wrote-none, text-still, pointer-same, made-same, own-items-same, exprs-kept, names-kept, diagnostics-kept, lost-kept}
@@ -125,71 +126,15 @@ module _ (s t : List ℕ) (x k n : ℕ) (l : Long s) (en : n ≡ cap (word s 4) 
       }
 
 -- ---- a Reference
-record NoText (x : Expr) : Type 0 where
-  is : referenceText x ≡ none
-
-no-text : (b : Bool) {x y : Expr} → NoText x → NoText y → NoText (pick b x y)
-no-text true a c = a
-no-text false a c = c
-
-other-sort : (s : List ℕ) (sort a b c : ℕ) (is : List Item) → (sort ≡ 21 → ⊥) → NoText (exprOf s sort a b c is)
-unfolding exprOf referenceText floatOr integerOr
-other-sort s sort a b c is h =
-    rw (ne-eqb sort 21 h)
-    (no-text (leb sort 1) (record { is = refl })
-    (no-text (eqb sort 2) (record { is = refl })
-    (no-text (eqb sort 3) (record { is = refl })
-    (no-text (eqb sort 4) (no-text (leb (wide a b) 9218868437227405312) (record { is = refl }) (record { is = refl }))
-    (no-text (eqb sort 5) (no-text (leb (wide a b) 9223372036854775807) (record { is = refl }) (record { is = refl }))
-    (no-text (eqb sort 6) (record { is = refl })
-    (no-text (eqb sort 7) (record { is = refl })
-    (no-text (eqb sort 8) (record { is = refl })
-    (no-text (eqb sort 9) (record { is = refl })
-    (no-text (eqb sort 10) (record { is = refl })
-    (no-text (eqb sort 11) (record { is = refl })
-    (no-text (eqb sort 12) (record { is = refl })
-    (no-text (eqb sort 13) (record { is = refl })
-    (no-text (eqb sort 14) (record { is = refl })
-    (no-text (eqb sort 15) (record { is = refl })
-    (no-text (eqb sort 16) (record { is = refl })
-    (no-text (eqb sort 17) (record { is = refl })
-    (no-text (eqb sort 18) (record { is = refl })
-    (no-text (eqb sort 19) (record { is = refl })
-    (no-text (eqb sort 20) (record { is = refl })
-    (no-text (eqb sort 22) (record { is = refl })
-    (no-text (eqb sort 23) (record { is = refl })
-    (no-text (eqb sort 24) (record { is = refl })
-    (no-text (eqb sort 25) (record { is = refl })
-    (no-text (eqb sort 26) (record { is = refl })
-    (no-text (eqb sort 27) (record { is = refl })
-    (record { is = refl })))))))))))))))))))))))))))
-
-made-at : (s : List ℕ) (e : ℕ) → e < cap (word s exprCount) exprLimit → madeAt (moduleIn s) e ≡ madeIn s e
-unfolding madeAt moduleIn moduleOf stateOf exprsOf
-made-at s e h = getD-rows (madeIn s) (cap (word s exprCount) exprLimit) e (record { expr = missing; pointer = none }) h
-
-no-made : (s : List ℕ) (e : ℕ) → cap (word s exprCount) exprLimit ≤ e → madeAt (moduleIn s) e ≡ record { expr = missing; pointer = none }
-unfolding madeAt moduleIn moduleOf stateOf exprsOf
-no-made s e h = getD-past (madeIn s) (cap (word s exprCount) exprLimit) e (record { expr = missing; pointer = none }) h
-
 unworded : (s : List ℕ) (e k : ℕ) → referenceText (exprAt (moduleIn s) e) ≡ none → Reworded e k s s
 unfolding setIfReference whereText withModule keptIn
 unworded s e k h = record { wrote = wrote-none ((64, 327764) ∷ []) s; still = record { same = refl }; does = rw h }
 
 pub no-expr : (s : List ℕ) (e k n : ℕ) → n ≡ cap (word s 0) 16384 → n ≤ e → Reworded e k s s
-unfolding exprAt referenceText
-no-expr s e k n en h = unworded s e k (ap (λ (d : Made). referenceText (d .expr)) (no-made s e (rw (← en) h)))
+no-expr s e k n en h = unworded s e k (text-past s e n en h)
 
 pub no-reference : (s : List ℕ) (e k n sort : ℕ) → n ≡ cap (word s 0) 16384 → e < n → sort ≡ word s (64 + 20 * e + 4) → (sort ≡ 21 → ⊥) → Reworded e k s s
-unfolding exprAt madeIn sortOf
-no-reference s e k n sort en h es ne =
-    let z : word s (64 + 20 * e + 4) ≡ 21 → ⊥ = λ q. ne (es ∙ q) in
-    unworded s e k (ap (λ (d : Made). referenceText (d .expr)) (made-at s e (rw (← en) h)) ∙ other-sort s (word s (64 + 20 * e + 4)) (word s (64 + 20 * e + 8)) (word s (64 + 20 * e + 12)) (word s (64 + 20 * e + 16)) (itemsOf s e) z .is)
-
--- an expression of the sort 21
-reference-made : (s : List ℕ) (e : ℕ) → sortOf s e ≡ 21 → madeIn s e ≡ record { expr = reference (textIn s (word s (64 + 20 * e + 8))); pointer = some (pointerAt s (327764 + 12 * e)) }
-unfolding madeIn exprOf pointerOr
-reference-made s e h = rw h
+no-reference s e k n sort en h es ne = unworded s e k (text-other s e n sort en h es ne)
 
 module _ (s t : List ℕ) (e k n sort : ℕ) (l : Long s) (en : n ≡ cap (word s 0) 16384) (h : e < n) (es : sort ≡ word s (64 + 20 * e + 4)) (eq : sort ≡ 21) (hk : k < 2 ^ 32) (et : t ≡ setWord s (64 + 20 * e + 8) k) where
   low-expr : e < 16384

@@ -16,7 +16,7 @@ use Rattle.layout.specs.Layout.{Long, absent, textsPlace, textsAt, textLimit}
 use Rattle.layout.specs.Changes.{Outside, Wrote}
 use Rattle.layout.specs.Texts.{textOf, textIn}
 use Rattle.soundness.specs.Sound.{textFits}
-use Rattle.kept.specs.TextChanges.{texting, Texted}
+use Rattle.kept.specs.TextChanges.{texting, taken, Texted}
 use Rattle.layout.proofs.Frames.{wrote-none, text-absent}
 use Rattle.kept.proofs.ScopeLaws.{clear-of}
 use Rattle.kept.proofs.TextFrames.{kept-worded}
@@ -38,8 +38,13 @@ text-none s bytes e =
     empty [] q = refl
     empty (x ∷ xs) q = absurd (omega arith)
 
-pub text-full : (s bytes : List ℕ) → textLimit < word s 28 + 4 + length bytes → Texted bytes s 4294967295 s
-text-full s bytes h = record { wrote = wrote-none texting s; is = λ k. absurd (omega arith); others = λ j q. (refl, q); kept = λ q. refl }
+pub taken-some : (bytes : List ℕ) → (length bytes ≡ 0 → ⊥) → taken bytes ≡ 4 + length bytes
+unfolding taken
+taken-some [] h = absurd (h refl)
+taken-some (b ∷ bs) h = refl
+
+pub text-full : (s bytes : List ℕ) → (length bytes ≡ 0 → ⊥) → textLimit < word s 28 + 4 + length bytes → Texted bytes s 4294967295 s
+text-full s bytes n h = record { wrote = wrote-none texting s; is = λ k. absurd (omega (arith, taken-some bytes n)); others = λ j q. (refl, q); kept = λ q. refl }
 
 absent-now : (s t : List ℕ) (j : ℕ) → j ≡ absent → (textIn t j ≡ textIn s j) × (textFits t j ≡ true)
 absent-now s t j e = rw e (text-absent t ∙ sym (text-absent s), fits-absent t)

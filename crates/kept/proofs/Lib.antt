@@ -5,6 +5,7 @@ pub mod KeepFrames
 pub mod AnswerLaws
 pub mod ReferenceLaws
 pub mod ChangedTextLaws
+pub mod UseLaws
 pub mod ChangeLaws
 pub mod TextFrames
 pub mod WalkSteps

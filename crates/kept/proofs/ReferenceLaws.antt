@@ -168,7 +168,7 @@ pub no-room-ends : (s : List ℕ) (x n first : ℕ) → first ≡ word s (250684
 unfolding firstReference
 no-room-ends s x n first ef h = record { relisted = not-listing s; does = λ d a b. let z : first ≡ listedBy (listsTo s x) = ef ∙ d .all in absurd (omega arith) }
 
-listed-more : (ess : List (List ℕ)) (es : List ℕ) → listedBy (ess ++ (es ∷ [])) ≡ listedBy ess + length es
+pub listed-more : (ess : List (List ℕ)) (es : List ℕ) → listedBy (ess ++ (es ∷ [])) ≡ listedBy ess + length es
 unfolding listedBy
 listed-more [] es = omega arith
 listed-more (fs ∷ ess) es = rw (listed-more ess es) (omega arith)

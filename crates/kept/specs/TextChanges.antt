@@ -23,10 +23,15 @@ use Rattle.soundness.specs.Sound.{textFits, sound}
 unfoldable pub texting : List Range
 texting = (28, 32) ∷ (3162240, 3948672) ∷ []
 
+-- what a text takes: a word for its length and its bytes, and nothing where it is empty
+unfoldable pub taken : Text → ℕ
+taken [] = 0
+taken (b ∷ bs) = 4 + length (b ∷ bs)
+
 -- The text with the number k is `bytes`, if there is room for it; every text that was there is as it was, and so is all that a sound store keeps.
 pub record Texted (bytes : Text) (s : List ℕ) (k : ℕ) (t : List ℕ) : Type 0 where
   pub wrote : Wrote texting s t
-  pub is : word s textsPlace + 4 + length bytes ≤ textLimit → (textIn t k ≡ bytes) × (textFits t k ≡ true)
+  pub is : word s textsPlace + taken bytes ≤ textLimit → (textIn t k ≡ bytes) × (textFits t k ≡ true)
   pub others : (j : ℕ) → textFits s j ≡ true → (textIn t j ≡ textIn s j) × (textFits t j ≡ true)
   pub kept : sound s ≡ true → keptIn t ≡ keptIn s
 

@@ -3,14 +3,20 @@
 // The Withs of an answer are not kept: they are those of the scopes around the Reference.
 ghost use mathlib.Core.Path.{_≡_};
 ghost use Prim.Native.Nat.{_≤_};
+ghost use Rattle.spec.specs.Scopes.{exprAt};
+ghost use Rattle.spec.specs.Answer.{referenceText};
 ghost use Rattle.spec.specs.Kept.{keptAnswer};
 ghost use Rattle.layout.specs.Layout.{Long};
+ghost use Rattle.layout.specs.Texts.{maybeText};
+ghost use Rattle.layout.specs.States.{moduleIn};
 ghost use Rattle.layout.specs.Keeps.{scopesIn, keptIn};
 ghost use Rattle.kept.specs.Answers.{maybeWith, withsAt, answerOfNumber, answerNumber, Answered};
 use crate::limits::in_use;
 use layout::wide;
 use module::ExprId;
+use module::MaybeText;
 use module::NameId;
+use module::TextId;
 use words::get32;
 use words::put32;
 
@@ -56,6 +62,21 @@ pub fn answer_of(n: u32) -> Answer
     } else {
         Answer::Definition(NameId(n - 24))
     }
+}
+
+// The text of a Reference; none of an expression that is no Reference.
+pub fn reference_text(store: &[u8], e: ExprId) -> MaybeText
+    requires { ⌜ Long (now store) ⌝ }
+    ensures { λ r. ⌜ maybeText (now (store .entry)) r ≡ referenceText (exprAt (moduleIn (now (store .entry))) (e .0)) ⌝ }
+{
+    let i = e.0;
+    if in_use(store, EXPR_COUNT, EXPR_LIMIT) <= i {
+        return MaybeText::Absent;
+    }
+    if get32(store, EXPRS + 20 * wide(i) + 4) != REFERENCE {
+        return MaybeText::Absent;
+    }
+    MaybeText::Text(TextId(get32(store, EXPRS + 20 * wide(i) + 8)))
 }
 
 // The answer that is kept for an expression: none for one that is no Reference.

@@ -12,6 +12,7 @@ pub use answers::Answer;
 pub use answers::MaybeAnswer;
 pub use answers::answer_of;
 pub use answers::kept_answer;
+pub use answers::reference_text;
 pub use answers::set_answer;
 pub use changes::add_text;
 pub use changes::set_name_text;

@@ -11,13 +11,13 @@ use Rattle.module.specs.Literals.{literalOf, Valid}
 use Rattle.module.specs.declared.ids.MaybeNode.{MaybeNode}
 use Rattle.module.specs.declared.ids.TextId as code-text
 use Rattle.module.specs.declared.literal.Literal as code-literal
-use Rattle.layout.specs.Texts.{textIn}
-use Rattle.keys.specs.AstUtils.{attrKindOf, textOf}
+use Rattle.layout.specs.Texts.{textIn, maybeText}
+use Rattle.keys.specs.AstUtils.{attrKindOf}
 use Rattle.keys.specs.Literals.{literalGiven, ValidGiven, Held}
 use Rattle.keys.specs.declared.ast_utils.AttrKind.{AttrKind}
 use Rattle.keys.specs.declared.ast_utils.AttrKind.the-variants.{Static, Dynamic}
-use Rattle.keys.specs.declared.ast_utils.MaybeText.{MaybeText}
-use Rattle.keys.specs.declared.ast_utils.MaybeText.the-variants as maybe-text
+use Rattle.module.specs.declared.ids.MaybeText.{MaybeText}
+use Rattle.module.specs.declared.ids.MaybeText.the-variants as maybe-text
 use Rattle.keys.specs.declared.literals.MaybeLiteral.{MaybeLiteral}
 use Rattle.keys.specs.declared.literals.MaybeLiteral.the-variants as maybe-literal
 
@@ -33,14 +33,14 @@ module _ (s : List ℕ) where
     key-dynamic m q = sym e ∙ ap (attrKindOf s) q
 
   -- ---- a text
-  module _ (r : MaybeText) (o : Option Text) (e : textOf s r ≡ o) where
+  module _ (r : MaybeText) (o : Option Text) (e : maybeText s r ≡ o) where
     pub text-there : (t : code-text.TextId) → r ≡ maybe-text.Text t → o ≡ some (textIn s (t .0))
-    unfolding textOf
-    text-there t q = sym e ∙ ap (textOf s) q
+    unfolding maybeText
+    text-there t q = sym e ∙ ap (maybeText s) q
 
     pub text-missing : r ≡ maybe-text.Absent → o ≡ none
-    unfolding textOf
-    text-missing q = sym e ∙ ap (textOf s) q
+    unfolding maybeText
+    text-missing q = sym e ∙ ap (maybeText s) q
 
   -- ---- a literal
   module _ (r : MaybeLiteral) (o : Option spec-module.Literal) (e : Held s o r) where

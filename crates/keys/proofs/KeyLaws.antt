@@ -18,12 +18,12 @@ use Rattle.module.specs.declared.ids.MaybeNode.the-variants as maybe-node
 use Rattle.module.specs.declared.ids.NodeId as code-id
 use Rattle.module.specs.declared.ids.TextId as code-text
 use Rattle.layout.specs.Layout.{absent}
-use Rattle.layout.specs.Texts.{textIn}
+use Rattle.layout.specs.Texts.{textIn, maybeText}
 use Rattle.layout.proofs.Frames.{text-absent}
 use Rattle.keys.specs.Items.{itemsFrom, First}
-use Rattle.keys.specs.AstUtils.{textOf, identName, setKind, Interpolated}
-use Rattle.keys.specs.declared.ast_utils.MaybeText.{MaybeText}
-use Rattle.keys.specs.declared.ast_utils.MaybeText.the-variants as maybe-text
+use Rattle.keys.specs.AstUtils.{identName, setKind, Interpolated}
+use Rattle.module.specs.declared.ids.MaybeText.{MaybeText}
+use Rattle.module.specs.declared.ids.MaybeText.the-variants as maybe-text
 use Rattle.keys.proofs.AnswerLaws.{text-there, text-missing}
 use Rattle.keys.proofs.ItemLaws.{items-are}
 
@@ -89,7 +89,7 @@ module _ {nodes : List Node} {n : NodeId} {at : ℕ} (s : Seeking nodes n at) wh
     seeking-more h = record { same = λ lower merge. s .same lower merge ∙ rw (a .items, ← e, ne-eqb k 33 h) }
 
 -- ---- keys
-module _ (s : List ℕ) (nodes : List Node) (n : NodeId) (m : MaybeText) (e : textOf s m ≡ getStrLiteral nodes n) where
+module _ (s : List ℕ) (nodes : List Node) (n : NodeId) (m : MaybeText) (e : maybeText s m ≡ getStrLiteral nodes n) where
   pub key-text : (t : code-text.TextId) → m ≡ maybe-text.Text t → spec.staticKey (textIn s (t .0)) ≡ strKey nodes n
   unfolding strKey
   key-text t q = rw (text-there s m (getStrLiteral nodes n) e t q)

@@ -1,4 +1,4 @@
--- Keys and texts that may be absent: what each is in the definitions; and the small questions to a node that the definitions ask where they stand.
+-- Keys: what each is in the definitions; and the small questions to a node that the definitions ask where they stand.
 use mathlib.Core.Path.{_≡_}
 use mathlib.Core.Bool.{Bool}
 use mathlib.Core.List.{List}
@@ -16,16 +16,10 @@ use Rattle.module.specs.Ids.{nodeOf}
 use Rattle.layout.specs.Texts.{textIn}
 use Rattle.keys.specs.declared.ast_utils.AttrKind.{AttrKind}
 use Rattle.keys.specs.declared.ast_utils.AttrKind.the-variants.{Static, Dynamic}
-use Rattle.keys.specs.declared.ast_utils.MaybeText.{MaybeText}
-use Rattle.keys.specs.declared.ast_utils.MaybeText.the-variants as maybe-text
 
 unfoldable pub attrKindOf : List ℕ → AttrKind → spec.AttrKind
 attrKindOf s (Static t) = spec.staticKey (textIn s (t .0))
 attrKindOf s (Dynamic m) = spec.dynamicKey (nodeOf m)
-
-unfoldable pub textOf : List ℕ → MaybeText → Option Text
-textOf s maybe-text.Absent = none
-textOf s (maybe-text.Text t) = some (textIn s (t .0))
 
 -- flag 1 says that an Ident has a name
 abbrev pub identName : List Node → NodeId → Option Text

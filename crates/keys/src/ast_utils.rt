@@ -6,7 +6,8 @@ ghost use Rattle.module.specs.Ids.{nodeOf};
 ghost use Rattle.module.specs.Kinds.{kindOf};
 ghost use Rattle.layout.specs.Layout.{Long};
 ghost use Rattle.layout.specs.Nodes.{nodesOf};
-ghost use Rattle.keys.specs.AstUtils.{attrKindOf, textOf, identName, setKind, Interpolated};
+ghost use Rattle.layout.specs.Texts.{maybeText};
+ghost use Rattle.keys.specs.AstUtils.{attrKindOf, identName, setKind, Interpolated};
 use crate::items::NextItem;
 use crate::items::next_item;
 use intake::kid;
@@ -14,6 +15,7 @@ use intake::node_flag;
 use intake::node_kind;
 use intake::node_text;
 use module::MaybeNode;
+use module::MaybeText;
 use module::NameKind;
 use module::NodeId;
 use module::TextId;
@@ -34,11 +36,6 @@ const DEPTH: u32 = 256;
 
 // The number of the empty text.
 const EMPTY: TextId = TextId(4294967295);
-
-pub enum MaybeText {
-    Absent,
-    Text(TextId),
-}
 
 // A static key by its text, or another by the expression that makes it.
 pub enum AttrKind {
@@ -73,7 +70,7 @@ pub fn flatten_paren(store: &[u8], place: MaybeNode) -> MaybeNode
 // The name of an Ident, where it has one.
 pub fn name_of_ident(store: &[u8], n: NodeId) -> MaybeText
     requires { ⌜ Long (now store) ⌝ }
-    ensures { λ r. ⌜ textOf (now (store .entry)) r ≡ identName (nodesOf (now (store .entry))) (n .0) ⌝ }
+    ensures { λ r. ⌜ maybeText (now (store .entry)) r ≡ identName (nodesOf (now (store .entry))) (n .0) ⌝ }
 {
     if node_flag(store, n) == 1 {
         return MaybeText::Text(node_text(store, n));
@@ -84,7 +81,7 @@ pub fn name_of_ident(store: &[u8], n: NodeId) -> MaybeText
 // The text of a Str without interpolation and with at most one part. With none it is the empty text.
 pub fn get_str_literal(store: &[u8], n: NodeId) -> MaybeText
     requires { ⌜ Long (now store) ⌝ }
-    ensures { λ r. ⌜ textOf (now (store .entry)) r ≡ getStrLiteral (nodesOf (now (store .entry))) (n .0) ⌝ }
+    ensures { λ r. ⌜ maybeText (now (store .entry)) r ≡ getStrLiteral (nodesOf (now (store .entry))) (n .0) ⌝ }
 {
     match next_item(store, n, 0) {
         NextItem::End => MaybeText::Text(EMPTY),

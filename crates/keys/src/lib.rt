@@ -5,7 +5,6 @@ mod items;
 mod literals;
 
 pub use ast_utils::AttrKind;
-pub use ast_utils::MaybeText;
 pub use ast_utils::attr_kind;
 pub use ast_utils::flatten_paren;
 pub use ast_utils::get_str_literal;

@@ -6,3 +6,4 @@ pub mod Exprs
 pub mod States
 pub mod Keeps
 pub mod Changes
+pub mod Regions

@@ -1,10 +1,13 @@
 -- Texts: a text's number is the place in the region of the texts where its length stands, and its bytes follow.
 use mathlib.Core.List.{List, []}
+use mathlib.Core.Option.{Option, none, some}
 use Prim.Native.Nat.{ℕ, _+_}
 use lib.Dec.{leb}
 use Rattle.words.specs.Runs.{run}
 use Rattle.words.specs.Words.{word}
 use Rattle.spec.specs.Basics.{Text, if_then_else_}
+use Rattle.module.specs.declared.ids.MaybeText.{MaybeText}
+use Rattle.module.specs.declared.ids.MaybeText.the-variants as maybe-text
 use Rattle.layout.specs.Layout.{textsAt, textLimit}
 
 -- what does not lie in the region is the empty text
@@ -13,3 +16,8 @@ textOf s k n = if leb (k + 4 + n) textLimit then run s (textsAt + k + 4) n else 
 
 unfoldable pub textIn : List ℕ → ℕ → Text
 textIn s k = textOf s k (word s (textsAt + k))
+
+-- a text that may be absent
+unfoldable pub maybeText : List ℕ → MaybeText → Option Text
+maybeText s (maybe-text.Text t) = some (textIn s (t .0))
+maybeText s maybe-text.Absent = none

@@ -1,6 +1,6 @@
 // Where everything lies in a store, and what its bytes say: docs/STORE.md as definitions.
 //
-// The crates layout, intake, store, merging, kept and soundness are the layer that knows offsets; nobody
+// The crates layout, intake, store, merging, kept, listing and soundness are the layer that knows offsets; nobody
 // above does.
 // This one has the decoding of any bytes (specs/), what a write leaves as it was (proofs/), and the
 // writes that the others share.

@@ -30,13 +30,13 @@ use Rattle.module.specs.declared.literal.Literal as code-literal
 use Rattle.module.specs.declared.literal.Literal.the-variants as literals
 use Rattle.layout.specs.Nodes.{nodesOf}
 use Rattle.layout.specs.States.{stateOf, waitingOf}
-use Rattle.layout.specs.Texts.{textIn}
+use Rattle.layout.specs.Texts.{textIn, maybeText}
 use Rattle.store.specs.Codes.{exprWith, ValidExpr, exprMade, holeMade}
 use Rattle.store.specs.Work.{Did, takeRow, takeLone, putName, nameWith}
-use Rattle.keys.specs.AstUtils.{textOf, identName}
+use Rattle.keys.specs.AstUtils.{identName}
 use Rattle.keys.specs.Literals.{literalHeld, allocLiteral, Held}
-use Rattle.keys.specs.declared.ast_utils.MaybeText.{MaybeText}
-use Rattle.keys.specs.declared.ast_utils.MaybeText.the-variants as maybe-text
+use Rattle.module.specs.declared.ids.MaybeText.{MaybeText}
+use Rattle.module.specs.declared.ids.MaybeText.the-variants as maybe-text
 use Rattle.keys.specs.declared.literals.MaybeLiteral.{MaybeLiteral}
 use Rattle.keys.specs.declared.literals.MaybeLiteral.the-variants as maybe-literal
 use Rattle.keys.proofs.AnswerLaws.{text-there, text-missing, literal-there, literal-valid, literal-missing}
@@ -123,7 +123,7 @@ flag-nameless : (b : Bool) (x : Text) → _≡_ {A = Option Text} (if b then som
 flag-nameless true x e = let z : _≡_ {A = ℕ} 0 1 = cc in absurd (omega arith)
 flag-nameless false x e = refl
 
-module _ (s : List ℕ) (n : NodeId) (p : Pointer) (b : p ≡ pointer (nodesOf s) n) (m : MaybeText) (e : textOf s m ≡ identName (nodesOf s) n) where
+module _ (s : List ℕ) (n : NodeId) (p : Pointer) (b : p ≡ pointer (nodesOf s) n) (m : MaybeText) (e : maybeText s m ≡ identName (nodesOf s) n) where
   name-there : (x : code-text.TextId) → m ≡ maybe-text.Text x → (eqb (flag (nodesOf s) n) 1 ≡ true) × (text (nodesOf s) n ≡ textIn s (x .0))
   name-there x q = flag-named (eqb (flag (nodesOf s) n) 1) (text (nodesOf s) n) (textIn s (x .0)) (text-there s m _ e x q)
 

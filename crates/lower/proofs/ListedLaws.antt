@@ -26,12 +26,12 @@ use Rattle.module.specs.declared.literal.Literal.the-variants as literals
 use Rattle.layout.specs.Exprs.{child}
 use Rattle.layout.specs.Nodes.{nodesOf}
 use Rattle.layout.specs.States.{stateOf, waitingOf}
-use Rattle.layout.specs.Texts.{textIn}
+use Rattle.layout.specs.Texts.{textIn, maybeText}
 use Rattle.store.specs.Codes.{exprWith, itemWith, exprMade}
 use Rattle.store.specs.Work.{Did, takeRow, pushItem}
-use Rattle.keys.specs.AstUtils.{textOf, Interpolated}
-use Rattle.keys.specs.declared.ast_utils.MaybeText.{MaybeText}
-use Rattle.keys.specs.declared.ast_utils.MaybeText.the-variants as maybe-text
+use Rattle.keys.specs.AstUtils.{Interpolated}
+use Rattle.module.specs.declared.ids.MaybeText.{MaybeText}
+use Rattle.module.specs.declared.ids.MaybeText.the-variants as maybe-text
 use Rattle.keys.proofs.AnswerLaws.{text-there, text-missing}
 use Rattle.merge.specs.Room.{price, _⊕_, covers, nothing, oneExpr, oneItem, ownNode}
 use Rattle.merge.specs.Lowers.{Lowering, Collecting}
@@ -80,7 +80,7 @@ module _ (depth n base : ℕ) (at : Places) {s u v t : List ℕ} {r : ℕ} (b : 
 
 -- ---- strings and paths
 module _ (depth n : ℕ) (p : Pointer) {s : List ℕ} (q : p ≡ pointer (nodesOf s) n) where
-  module _ (m : MaybeText) (e : textOf s m ≡ getStrLiteral (nodesOf s) n) {r : ℕ} {t : List ℕ} where
+  module _ (m : MaybeText) (e : maybeText s m ≡ getStrLiteral (nodesOf s) n) {r : ℕ} {t : List ℕ} where
     pub string-literal : (x : code-text.TextId) → m ≡ maybe-text.Text x → Lone (Literal (literals.Text x)) p s r t
         → Lowering 0 (below n) oneExpr (λ nodes. lowerString nodes (lowerAt depth nodes) (mergeAt depth nodes) n) s r t
     unfolding lowerString stringAs exprWith literalOf covers _⊕_ price oneExpr

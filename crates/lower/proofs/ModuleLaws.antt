@@ -20,6 +20,7 @@ use Rattle.spec.proofs.Leaves.{weightless}
 use Rattle.layout.specs.Layout.{nodeCount, nodeLimit}
 use Rattle.layout.specs.Rows.{cap}
 use Rattle.layout.specs.Changes.{Outside, Wrote, Still}
+use Rattle.layout.specs.Regions.{writing}
 use Rattle.layout.specs.Nodes.{nodeIn, nodesOf}
 use Rattle.layout.specs.States.{setsOf, entriesOf, orderOf, stateOf, moduleIn, waitingOf, usedOf}
 use Rattle.layout.proofs.RowLaws.{length-rows, cap-lim}
@@ -33,7 +34,7 @@ use Rattle.merge.specs.Room.{Resource, exprs, items, names, diagnostics, sets, 
 use Rattle.merge.specs.Lowers.{Ready, Setting, Lowered, Floats}
 use Rattle.lower.specs.Sizes.{sized, below}
 use Rattle.lower.specs.Parts.{LowersNode}
-use Rattle.lower.specs.Whole.{Whole, writing, LowersAll}
+use Rattle.lower.specs.Whole.{Whole, LowersAll}
 
 -- there are no more nodes than there is room for
 few-nodes : (s : List ℕ) → length (nodesOf s) ≤ 4096

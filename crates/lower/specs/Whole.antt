@@ -1,11 +1,12 @@
 -- A whole module lowered: for every sheet that is accepted, without a limit.
 use mathlib.Core.Path.{_≡_}
-use mathlib.Core.List.{List, [], _∷_}
+use mathlib.Core.List.{List, []}
 use Prim.Native.Nat.{ℕ}
 use Rattle.spec.specs.Sheet.{accepted}
 use Rattle.spec.specs.Tree.{judge}
 use Rattle.spec.specs.Lower.{lowerModule}
-use Rattle.layout.specs.Changes.{Range, Wrote, Still}
+use Rattle.layout.specs.Changes.{Wrote, Still}
+use Rattle.layout.specs.Regions.{writing}
 use Rattle.layout.specs.Nodes.{nodesOf}
 use Rattle.layout.specs.States.{moduleIn, setsOf, entriesOf, waitingOf}
 use Rattle.store.specs.Work.{workOf, noWork, lowering, Fine}
@@ -17,10 +18,6 @@ pub record Whole (s t : List ℕ) : Type 0 where
   pub none-waits : waitingOf t ≡ []
   pub no-sets : setsOf t ≡ []
   pub no-entries : entriesOf t ≡ []
-
--- what lowering a module writes: what lowering writes, and the entry expression
-unfoldable pub writing : List Range
-writing = (0, 20) ∷ (32, 48) ∷ (64, 2310228) ∷ (2588772, 2998372) ∷ []
 
 pub record LowersAll (s t : List ℕ) : Type 0 where
   pub wrote : Wrote writing s t

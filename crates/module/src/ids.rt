@@ -32,6 +32,11 @@ pub enum MaybeScope {
     Absent,
 }
 
+pub enum MaybeText {
+    Text(TextId),
+    Absent,
+}
+
 // The value of a static binding.
 pub enum BindingValue {
     Expr(ExprId),

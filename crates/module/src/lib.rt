@@ -20,6 +20,7 @@ pub use ids::MaybeExpr;
 pub use ids::MaybeName;
 pub use ids::MaybeNode;
 pub use ids::MaybeScope;
+pub use ids::MaybeText;
 pub use ids::NameId;
 pub use ids::NodeId;
 pub use ids::ScopeId;

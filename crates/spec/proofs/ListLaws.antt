@@ -46,6 +46,11 @@ getD-tabulate-past f d i [] n h = refl
 getD-tabulate-past f d i (x ∷ xs) zero h = absurd (not-suc-le-zero h)
 getD-tabulate-past f d i (x ∷ xs) (suc n) h = getD-tabulate-past f d (suc i) xs n (le-of-suc-le-suc h)
 
+pub length-tabulate : {A B : Type 0} (f : ℕ → B) (i : ℕ) (xs : List A) → length (tabulate f i xs) ≡ length xs
+unfolding tabulate
+length-tabulate f i [] = refl
+length-tabulate f i (x ∷ xs) = ap suc (length-tabulate f (suc i) xs)
+
 -- ---- one more item
 pub length-snoc : {A : Type 0} (xs : List A) (x : A) → length (xs ++ (x ∷ [])) ≡ suc (length xs)
 length-snoc xs x = length-append xs (x ∷ []) ∙ add-suc _ _ ∙ ap suc (add-zero _)

@@ -21,7 +21,8 @@ use Rattle.spec.specs.Scopes.{ScopeKind, definitions, withExpr, Scope, S
 use Rattle.spec.specs.Answer.{Answer, unresolved, definition, builtin, withs, builtins, indexFrom, scopeAt, chain, lastWith, definedIn, innermost, ifWith, withsOf, someWiths, afterBuiltins, afterDefinitions, answerIn, answerAt, answerOf, answer, means, referenceText, referencesFrom, references}
 use Rattle.spec.specs.Calls.{Condition, Call, askReference, askName, changeReference, changeName, isAccepted, oldText, newText, withText, setReference, setName}
 use Rattle.spec.specs.Kept.{Kept, tabulate, answersAfresh, referencesAfresh, loaded, keptAnswer, keptReferences, keptOutcome, resolvedAgain, answeredWith, changedTo, keptWith, keptAfter, bears}
-use Rattle.spec.proofs.Sums.{All, all-append, all-left, all-right, all-map, compared}
+use Rattle.spec.proofs.ListLaws.{length-tabulate}
+use Rattle.spec.proofs.Sums.{All, all-append, all-left, all-right, all-map, compared, all-getD}
 use Rattle.spec.proofs.Once.{walkedBy}
 use Rattle.spec.proofs.Ordered.{AllBelow, lowered-ordered}
 use Rattle.spec.proofs.Walk.{walked-below}
@@ -93,16 +94,12 @@ every-row x es h i = go (ltb i (length es)) refl
         subst (λ (y : Expr). Row x i es (form y)) (sym q) (record { names = tt; bindings = tt })
 
 -- ---- answers
-all-getD : {A : Type 0} (P : A → Type 0) (xs : List A) (i : ℕ) (d : A) → P d → All P xs → P (getD xs i d)
-all-getD P [] i d p a = p
-all-getD P (x ∷ xs) zero d p a = a .0
-all-getD P (x ∷ xs) (suc i) d p a = all-getD P xs i d p (a .1)
+-- what each scope holds, one out of range too
+pub kinds-in : (x e : ℕ) (w : Scopes) → InRange x e w → (s : ScopeId) → KindIn x e (scopeAt (w .scopes) s .kind)
+unfolding scopeAt
+kinds-in x e w range s = all-getD (λ (d : Scope). KindIn x e (d .kind)) (w .scopes) s _ tt (range .kinds)
 
-module _ (x e : ℕ) (w : Scopes) (range : InRange x e w) where
-  kind-in : (s : ScopeId) → KindIn x e (scopeAt (w .scopes) s .kind)
-  unfolding scopeAt
-  kind-in s = all-getD (λ (d : Scope). KindIn x e (d .kind)) (w .scopes) s _ tt (range .kinds)
-
+module _ (x e : ℕ) (w : Scopes) (kind-in : (s : ScopeId) → KindIn x e (scopeAt (w .scopes) s .kind)) where
   last-in : (f : NameId → Text) (t : Text) (found : Option NameId) (ys : List NameId) → AllBelow x (oneOrNone found) → AllBelow x ys
       → AllBelow x (oneOrNone (lastWith f t found ys))
   unfolding lastWith oneOrNone
@@ -147,7 +144,7 @@ module _ (x e : ℕ) (w : Scopes) (range : InRange x e w) where
       go true h = (omega arith, tt)
       go false h = h
 
-  answer-at-in : (f : NameId → Text) (t : Text) (s : Option ScopeId) → AnswerIn x e (answerAt f (w .scopes) t s)
+  pub answer-at-in : (f : NameId → Text) (t : Text) (s : Option ScopeId) → AnswerIn x e (answerAt f (w .scopes) t s)
   unfolding answerAt answerIn afterDefinitions afterBuiltins someWiths builtins oneOrNone
   answer-at-in f t none = tt
   answer-at-in f t (some s) = go (innermost f (w .scopes) t (chain (w .scopes) s)) (innermost-in f t (chain (w .scopes) s))
@@ -178,11 +175,6 @@ all-tabulate : {A B : Type 0} (P : B → Type 0) (f : ℕ → B) → ((i : ℕ) 
 unfolding tabulate
 all-tabulate P f h i [] = tt
 all-tabulate P f h i (x ∷ xs) = (h i, all-tabulate P f h (suc i) xs)
-
-length-tabulate : {A B : Type 0} (f : ℕ → B) (i : ℕ) (xs : List A) → length (tabulate f i xs) ≡ length xs
-unfolding tabulate
-length-tabulate f i [] = refl
-length-tabulate f i (x ∷ xs) = ap suc (length-tabulate f (suc i) xs)
 
 answered-below : (x : NameId) (i : ℕ) (as′ : List (Option Answer)) → AllBelow (i + length as′) (answeredWith x i as′)
 unfolding answeredWith
@@ -220,7 +212,7 @@ lowered-sound nodes =
       rows = rows;
       scopes = range;
       answered = length-tabulate _ 0 (m .exprs);
-      answers = all-tabulate _ (answer m (scopesOf m)) (answer-in _ _ (scopesOf m) range m) 0 (m .exprs);
+      answers = all-tabulate _ (answer m (scopesOf m)) (answer-in _ _ (scopesOf m) (kinds-in _ _ (scopesOf m) range) m) 0 (m .exprs);
       referred = length-tabulate _ 0 (m .names);
       references = all-tabulate _ _ (λ x. all-map _ _ (λ c h. omega arith) (referencesFrom m (scopesOf m) x 0 (m .exprs)) (references-below m (scopesOf m) x 0 (m .exprs))) 0 (m .names);
     }
@@ -299,7 +291,7 @@ unfolding resolvedAgain keptAnswer oneOrNone
 resolved-in k sound m old new e = go (bears old (referenceText (exprAt m e)) || bears new (referenceText (exprAt m e)))
   where
     go : (b : Bool) → All (AnswerIn (length (k .lowered .names)) (length (k .lowered .exprs))) (oneOrNone (pick b (answer m (k .scopes) e) (getD (k .answers) e none)))
-    go true = answer-in _ _ (k .scopes) (sound .scopes) m e
+    go true = answer-in _ _ (k .scopes) (kinds-in _ _ (k .scopes) (sound .scopes)) m e
     go false = all-getD _ (k .answers) e none tt (sound .answers)
 
 changed-sound : (k : Kept) → Sound k → (m : Module) (old new : Text) (spent : ℕ) → SameLists k m → Sound (changedTo k m old new spent)

@@ -5,6 +5,7 @@ use mathlib.Core.List.{List, [], _∷_, _++_}
 use Prim.Native.Nat.{ℕ, zero, suc, _+_, _*_, _≤_}
 use native.Mathlib.Omega.{arith}
 use lib.Dec.{eqb}
+use lib.ListN.{getD}
 use borrow.Author.Tests.{eqb-true, eqb-false, eq-eqb}
 use Rattle.words.specs.Order.{pick}
 
@@ -89,6 +90,11 @@ module _ {A : Type 0} where
   pub all-map : (P Q : A → Type 0) → ((x : A) → P x → Q x) → (xs : List A) → All P xs → All Q xs
   all-map P Q h [] a = tt
   all-map P Q h (x ∷ xs) a = (h x (a .0), all-map P Q h xs (a .1))
+
+  pub all-getD : (P : A → Type 0) (xs : List A) (i : ℕ) (d : A) → P d → All P xs → P (getD xs i d)
+  all-getD P [] i d p a = p
+  all-getD P (x ∷ xs) zero d p a = a .0
+  all-getD P (x ∷ xs) (suc i) d p a = all-getD P xs i d p (a .1)
 
 -- ---- sums over what is met from a number: itself and then, one level less, what `below` lists for it
 abbrev pub total : (ℕ → List ℕ) → (ℕ → ℕ) → ℕ → ℕ → ℕ

@@ -29,7 +29,7 @@ module _ (m : Module) (P : ExprId → Type 0) (f g : ScopeId → ExprId → Walk
   each-agree s [] a = refl
   each-agree s (e ∷ es) a = then-agree (agree s e (a .0)) λ _. each-agree s es (a .1)
 
-  as-agree : (own : ExprId) (k : Form) (s : ScopeId) → All P (walkedBy k) → traverseAs m f own k s ≡ traverseAs m g own k s
+  pub as-agree : (own : ExprId) (k : Form) (s : ScopeId) → All P (walkedBy k) → traverseAs m f own k s ≡ traverseAs m g own k s
   unfolding traverseAs traverseLambda traverseWith traverseBindings
   as-agree own (function x p b) s a =
       then-agree refl λ t.

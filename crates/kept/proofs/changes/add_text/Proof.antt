@@ -11,7 +11,7 @@ returns : tie.Need-returns
 returns c = text-none _ _ (c .if1 .taken)
 
 returns-2 : tie.Need-returns-2
-returns-2 c = text-full _ _ (omega (arith, c .if2 .taken))
+returns-2 c = text-full _ _ (c .before .if1 .left) (omega (arith, c .if2 .taken))
 
 get32-requires : tie.Need-get32-requires
 get32-requires c κs = search needs
@@ -23,7 +23,7 @@ same-length : tie.Need-same-length
 same-length c = search needs
 
 returns-3 : tie.Need-returns-3
-returns-3 c = text-full _ _ (omega (arith, c .if3 .taken, c .before .before .get32 .ensures, c .before .wide .ensures))
+returns-3 c = text-full _ _ (c .before .before .before .before .before .if1 .left) (omega (arith, c .if3 .taken, c .before .before .get32 .ensures, c .before .wide .ensures))
 
 wide-requires-2 : tie.Need-wide-requires-2
 wide-requires-2 c κs = search needs

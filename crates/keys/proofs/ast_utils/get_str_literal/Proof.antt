@@ -2,7 +2,7 @@
 use borrow.Author.Needs.{needs}
 use Rattle.keys.proofs.KeyLaws.{parts-none, parts-more, part-literal, part-other}
 use Rattle.keys.proofs.ItemLaws.{next-end, next-first}
-use Rattle.keys.specs.AstUtils.{textOf}
+use Rattle.layout.specs.Texts.{maybeText}
 use Rattle.keys.proofs.ast_utils.get_str_literal.Statement.{statement}
 use Rattle.keys.proofs.ast_utils.get_str_literal.Tie as tie
 
@@ -31,19 +31,19 @@ node-text-requires : tie.Need-node-text-requires
 node-text-requires c κs = search needs
 
 returns : tie.Need-returns
-unfolding textOf
+unfolding maybeText
 returns c = part-literal _ _ _ _ (next-first _ _ _ _ (c .before .before .before .before .before .before .before .before .before .next-item .ensures) _ _ (c .before .before .before .before .before .before .before .part .given .1)) (next-end _ _ _ _ (c .before .before .before .before .before .next-item2 .ensures) (c .before .before .before .enum-told3 .given .1)) _ (c .before .before .node-kind .ensures) (c .before .if1 .taken) _ (c .node-text .ensures)
 
 returns-2 : tie.Need-returns-2
-unfolding textOf
+unfolding maybeText
 returns-2 c = parts-none _ _ _ (next-end _ _ _ _ (c .before .before .next-item .ensures) (c .enum-told .given .1))
 
 returns-3 : tie.Need-returns-3
-unfolding textOf
+unfolding maybeText
 returns-3 c = parts-more _ _ _ _ (next-first _ _ _ _ (c .before .before .before .before .before .before .next-item .ensures) _ _ (c .before .before .before .before .part .given .1)) _ _ (next-first _ _ _ _ (c .before .before .next-item2 .ensures) _ _ (c .enum-told2 .given .1))
 
 returns-4 : tie.Need-returns-4
-unfolding textOf
+unfolding maybeText
 returns-4 c = part-other _ _ _ _ (next-first _ _ _ _ (c .before .before .before .before .before .before .before .before .next-item .ensures) _ _ (c .before .before .before .before .before .before .part .given .1)) (next-end _ _ _ _ (c .before .before .before .before .next-item2 .ensures) (c .before .before .enum-told3 .given .1)) _ (c .before .node-kind .ensures) (c .if1 .left)
 
 pub get-str-literal-spec : {M : Type 1} → statement M

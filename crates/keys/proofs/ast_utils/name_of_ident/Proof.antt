@@ -1,7 +1,7 @@
 -- `keys::ast_utils::name_of_ident` meets its contract. Written by a script from tools/answers_keys.txt. Assumes nothing.
 use borrow.Author.Needs.{needs}
 use Rattle.keys.proofs.KeyLaws.{ident-named, ident-nameless}
-use Rattle.keys.specs.AstUtils.{textOf}
+use Rattle.layout.specs.Texts.{maybeText}
 use Rattle.keys.proofs.ast_utils.name_of_ident.Statement.{statement}
 use Rattle.keys.proofs.ast_utils.name_of_ident.Tie as tie
 
@@ -12,11 +12,11 @@ node-text-requires : tie.Need-node-text-requires
 node-text-requires c κs = search needs
 
 returns : tie.Need-returns
-unfolding textOf
+unfolding maybeText
 returns c = ident-named _ _ _ (c .before .before .node-flag .ensures) (c .before .if1 .taken) _ (c .node-text .ensures)
 
 returns-2 : tie.Need-returns-2
-unfolding textOf
+unfolding maybeText
 returns-2 c = ident-nameless _ _ _ (c .before .node-flag .ensures) (c .if1 .left)
 
 pub name-of-ident-spec : {M : Type 1} → statement M
