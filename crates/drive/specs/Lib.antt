@@ -1,2 +1,3 @@
 pub mod Drive
 pub mod Stores
+pub mod Names

@@ -1,0 +1,67 @@
+-- `builtins::lookup::lookup_global_builtin` meets its contract. Written by a script from tools/answers_builtins.txt. Assumes nothing.
+use lib.ListN.{drop}
+use native.Mathlib.Omega.{arith}
+use Prim.Native.Nat.{_-_}
+use mathlib.Core.Path.{_≡_, refl}
+use Rattle.builtins.proofs.LookupLaws.{name-found, name-passed, name-lacked}
+use Rattle.layout.specs.Texts.{textIn}
+use Rattle.spec.specs.Answer.{builtins, indexFrom}
+use Rattle.builtins.proofs.lookup.lookup_global_builtin.Statement.{statement}
+use Rattle.builtins.proofs.lookup.lookup_global_builtin.Tie as tie
+
+abbrev Inv-loop : tie.InvT-loop
+Inv-loop store t n first i₀ i = indexFrom 0 (textIn store (t .0)) builtins ≡ indexFrom i (textIn store (t .0)) (drop i builtins)
+
+abbrev μ-loop : tie.MeasureT-loop
+μ-loop store t n first i₀ i = 22 - i
+
+text-length-requires : tie.Need-text-length-requires Inv-loop μ-loop
+text-length-requires c κs = c .before .pre
+
+cast-n : tie.Need-cast-n Inv-loop μ-loop
+cast-n c = omega arith
+
+text-byte-requires : tie.Need-text-byte-requires Inv-loop μ-loop
+text-byte-requires c κs = c .before .before .pre
+
+loop-holds : tie.Need-loop-holds Inv-loop μ-loop
+loop-holds c = refl
+
+is-name-requires : tie.Need-is-name-requires Inv-loop μ-loop
+is-name-requires c κs = (c .before .before .before .before .before .pre, (record { size = c .before .before .before .text-length .ensures; byte = c .before .before .text-byte .ensures }, c .loop-test .taken))
+
+cast-t9 : tie.Need-cast-t9 Inv-loop μ-loop
+cast-t9 c = omega arith
+
+returns : tie.Need-returns Inv-loop μ-loop
+returns c = name-found _ _ (c .before .before .before .loop .inv) _ (c .before .before .loop-test .taken) (c .before .is-name .ensures) (c .if1 .taken)
+
+add-i : tie.Need-add-i Inv-loop μ-loop
+add-i c = omega arith
+
+loop-less : tie.Need-loop-less Inv-loop μ-loop
+loop-less c = omega arith
+
+loop-again : tie.Need-loop-again Inv-loop μ-loop
+loop-again c = name-passed _ _ (c .before .before .before .loop .inv) _ (c .before .before .loop-test .taken) (c .before .is-name .ensures) (c .if1 .left)
+
+returns-2 : tie.Need-returns-2 Inv-loop μ-loop
+returns-2 c = name-lacked _ _ (c .before .loop .inv) (c .loop-test .left)
+
+pub lookup-global-builtin-spec : {M : Type 1} → statement M
+lookup-global-builtin-spec =
+    tie.close
+    (tie.spec
+    Inv-loop
+    μ-loop
+    text-length-requires
+    cast-n
+    text-byte-requires
+    loop-holds
+    is-name-requires
+    cast-t9
+    returns
+    add-i
+    loop-less
+    loop-again
+    returns-2)

@@ -1,0 +1,5 @@
+pub mod MeantLaws
+pub mod AnsweredLaws
+pub mod LinkLaws
+pub mod ListingLaws
+pub mod Afresh

@@ -1,0 +1,30 @@
+-- `listing::meaning::name_meant` meets its contract. Written by a script from tools/answers_listing.txt. Assumes nothing.
+use borrow.Author.Needs.{needs}
+use Rattle.listing.proofs.MeantLaws.{meant-kept, meant-absent}
+use Rattle.module.specs.Ids.{nameOf}
+use Rattle.listing.proofs.meaning.name_meant.Statement.{statement}
+use Rattle.listing.proofs.meaning.name_meant.Tie as tie
+
+kept-answer-requires : tie.Need-kept-answer-requires
+kept-answer-requires c κs = search needs
+
+enum-known-a : tie.Need-enum-known-a
+enum-known-a c = search needs
+
+definition-of-requires : tie.Need-definition-of-requires
+definition-of-requires c κs = search needs
+
+enum-told : tie.Need-enum-told
+enum-told c = search needs
+
+returns : tie.Need-returns
+returns c = meant-kept _ _ _ _ _ (c .before .before .a .given .1) (c .before .before .before .before .kept-answer .ensures) (c .definition-of .ensures)
+
+returns-2 : tie.Need-returns-2
+unfolding nameOf
+returns-2 c = meant-absent _ _ _ (c .enum-told .given .1) (c .before .before .kept-answer .ensures)
+
+pub name-meant-spec : {M : Type 1} → statement M
+name-meant-spec =
+    tie.close
+    (tie.spec kept-answer-requires enum-known-a definition-of-requires enum-told returns returns-2)

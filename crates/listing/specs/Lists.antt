@@ -1,0 +1,42 @@
+-- Kept references in a store, listed anew from the kept answers.
+use mathlib.Core.Path.{_≡_}
+use mathlib.Core.List.{List, [], _∷_, _++_}
+use Prim.Native.Nat.{ℕ, _+_, _≤_, _<_}
+use lib.ListN.{length}
+use Rattle.spec.specs.Basics.{NameId}
+use Rattle.spec.specs.Kept.{tabulate, answeredWith}
+use Rattle.layout.specs.Layout.{nameLimit, referenceLimit}
+use Rattle.layout.specs.Rows.{rowsTo}
+use Rattle.layout.specs.Changes.{Range, Wrote, Still}
+use Rattle.layout.specs.Keeps.{keptIn}
+use Rattle.kept.specs.References.{listedBy, listsTo, Listed, withReferences, Relisted}
+use Rattle.listing.specs.Links.{headOf, Chained, answeredFrom}
+
+-- where references begin, and references; the room of the items that wait
+unfoldable pub relisting : List Range
+relisting = (2506848, 2588772) ∷ (2588772, 2785380) ∷ []
+
+-- The kept references are those that the kept answers say, and nothing else that is kept is another.
+pub record Lists (s t : List ℕ) : Type 0 where
+  pub wrote : Wrote relisting s t
+  pub still : Still s t
+  pub does : keptIn t ≡ withReferences (tabulate (λ x. answeredWith x 0 (keptIn s .answers)) 0 (keptIn s .lowered .names)) (keptIn s)
+
+-- ---- the way there
+-- The references of the name x are linked, the names before it have their lists, and there is room.
+pub record Ready (x : NameId) (s : List ℕ) : Type 0 where
+  pub name : x < nameLimit
+  pub chain : Chained s (headOf s x) (answeredFrom s 0 x)
+  pub listed : Listed x s
+  pub room : listedBy (listsTo s x) + length (answeredFrom s 0 x) ≤ referenceLimit
+
+-- The list of the name x comes after those of the names before it.
+pub record ListsOne (x : NameId) (s t : List ℕ) : Type 0 where
+  pub relisted : Relisted s t
+  pub listed : Listed (x + 1) t
+  pub lists : listsTo t (x + 1) ≡ listsTo s x ++ (answeredFrom s 0 x ∷ [])
+
+-- The first n names have their lists.
+pub record ListsAll (n : ℕ) (s t : List ℕ) : Type 0 where
+  pub relisted : Relisted s t
+  pub lists : listsTo t n ≡ rowsTo (answeredFrom s 0) n

@@ -1,0 +1,254 @@
+-- One text changed: what is kept after it. Assumes nothing.
+use mathlib.Core.Path.{_≡_, refl, sym, ap, _∙_}
+use mathlib.Core.Logic.{_⊎_, inl, inr, ⊎-elim}
+use mathlib.Core.Bool.{Bool, true, false, not}
+use mathlib.Core.List.{List, [], _∷_}
+use mathlib.Core.Option.{Option, none, some}
+use Prim.Native.Nat.{ℕ, suc, _+_, _*_, _≤_, _<_}
+use native.Mathlib.Omega.{arith}
+use lib.ListN.{length}
+use Rattle.words.specs.Words.{word}
+use Rattle.words.specs.Equality.{equalb}
+use Rattle.spec.specs.Basics.{Text, ExprId, NameId}
+use Rattle.spec.specs.Module.{Module}
+use Rattle.spec.specs.Scopes.{Scopes, exprAt, nameAt}
+use Rattle.spec.specs.Answer.{referenceText}
+use Rattle.spec.specs.Calls.{changeReference, changeName, orEmpty, oldText, newText, setName, setReference, withText, spentBy}
+use Rattle.spec.specs.Kept.{Kept, tabulate, keptAnswer, resolvedAgain, answeredWith, changedTo, keptWith}
+use Rattle.layout.specs.Layout.{textsPlace, spentPlace, textLimit, roomLimit}
+use Rattle.layout.specs.Changes.{Range, Outside, Wrote, Still}
+use Rattle.layout.specs.Regions.{resolving, spending, changing}
+use Rattle.layout.specs.Texts.{textIn, maybeText}
+use Rattle.layout.specs.States.{moduleIn}
+use Rattle.layout.specs.Keeps.{scopesIn, keptIn}
+use Rattle.layout.proofs.Frames.{wrote-none, text-still}
+use Rattle.soundness.specs.Sound.{sound}
+use Rattle.kept.specs.TextChanges.{texting, taken, Texted, withModule, Renamed, setIfReference, whereText, Reworded, Spent}
+use Rattle.nameres.specs.Resolution.{Nameable, ResolvedAgain}
+use Rattle.module.specs.declared.ids.MaybeText.{MaybeText}
+use Rattle.module.specs.declared.ids.MaybeText.the-variants as maybe-text
+use Rattle.nameres.specs.Changed.{changed, Spends, Changes, ChangesReference}
+use Rattle.nameres.proofs.SoundNames.{Counted, counted, sound-named}
+
+-- what a text takes is there as long as the change room holds it
+fits : (s : List ℕ) (bytes : Text) → sound s ≡ true → keptIn s .spent + length bytes ≤ roomLimit → word s textsPlace + taken bytes ≤ textLimit
+unfolding keptIn taken
+fits s [] h l = let c = counted s h in omega (arith, c .texts, c .spent)
+fits s (b ∷ bs) h l = let c = counted s h in omega (arith, c .texts)
+
+-- ranges that lie in others
+record Inside (rs qs : List Range) : Type 0 where
+  out : (j : ℕ) → Outside j qs → Outside j rs
+
+abbrev naming : List Range
+naming = (917588, 950356) ∷ []
+
+abbrev wording : List Range
+wording = (64, 327764) ∷ []
+
+texts-inside : Inside texting changing
+unfolding Outside texting changing
+texts-inside = record { out = λ j o. (⊎-elim (λ z. inl (omega arith)) (λ z. inr (omega arith)) (o .0), (o .1 .1 .1 .1 .1 .0, tt)) }
+
+spent-inside : Inside spending changing
+unfolding Outside changing
+spent-inside = record { out = λ j o. (⊎-elim (λ z. inl z) (λ z. inr (omega arith)) (⊎-elim (λ z. inl (omega arith)) (λ z. inr z) (o .0)), tt) }
+
+names-inside : Inside naming changing
+unfolding Outside changing
+names-inside = record { out = λ j o. (o .1 .1 .0, tt) }
+
+words-inside : Inside wording changing
+unfolding Outside changing
+words-inside = record { out = λ j o. (o .1 .0, tt) }
+
+again-inside : Inside resolving changing
+unfolding Outside changing
+again-inside = record { out = λ j o. (o .1 .1 .1 .0, (o .1 .1 .1 .1 .0, tt)) }
+
+-- four writes one after the other
+four-wrote : {a b c d qs : List Range} {s0 s1 s2 s3 s4 : List ℕ} → Inside a qs → Wrote a s0 s1 → Inside b qs → Wrote b s1 s2 → Inside c qs → Wrote c s2 s3 → Inside d qs → Wrote d s3 s4 → Wrote qs s0 s4
+four-wrote i w i2 w2 i3 w3 i4 w4 =
+    record {
+      size = w4 .size ∙ w3 .size ∙ w2 .size ∙ w .size;
+      other = λ j o. w4 .other j (i4 .out j o) ∙ w3 .other j (i3 .out j o) ∙ w2 .other j (i2 .out j o) ∙ w .other j (i .out j o);
+    }
+
+-- a text that differs is set, and its length is spent
+module _ (k : Kept) (x : ℕ) (bytes : Text) (reply : ℕ) where
+  sets-name : equalb (nameAt (k .lowered) x .text) bytes ≡ false
+      → changed k (changeName x bytes reply) ≡ changedTo k (setName x bytes (k .lowered)) (nameAt (k .lowered) x .text) bytes (k .spent + length bytes)
+  unfolding changed keptWith oldText newText withText spentBy
+  sets-name h = ap (λ b. keptWith k (changeName x bytes reply) (not b)) h ∙ rw h
+
+  sets-reference : (old : Text) → referenceText (exprAt (k .lowered) x) ≡ some old → equalb old bytes ≡ false
+      → changed k (changeReference x bytes reply) ≡ changedTo k (setReference x bytes (k .lowered)) old bytes (k .spent + length bytes)
+  unfolding changed keptWith oldText newText withText spentBy orEmpty
+  sets-reference old e h =
+      let z : equalb (orEmpty (referenceText (exprAt (k .lowered) x))) bytes ≡ false = rw e h in
+      ap (λ b. keptWith k (changeReference x bytes reply) (not b)) z ∙ rw (e, h)
+
+-- an equal text changes nothing
+equal-name : (s : List ℕ) (x : NameId) (bytes : Text) (reply : ℕ) → equalb (nameAt (moduleIn s) x .text) bytes ≡ true → Changes (changeName x bytes reply) s s
+unfolding changed keptWith oldText newText keptIn
+equal-name s x bytes reply h = record { wrote = wrote-none changing s; does = λ _ _. rw h }
+
+pub unchanged-name : (s : List ℕ) (x k : ℕ) (bytes : Text) (r : Bool) → textIn s k ≡ nameAt (moduleIn s) x .text → r ≡ equalb (textIn s k) bytes → r ≡ true → (reply : ℕ) → Changes (changeName x bytes reply) s s
+unchanged-name s x k bytes r a b c reply = equal-name s x bytes reply (rw (← a, ← b, c))
+
+-- ---- another text: it is added, a row gets its number, the room is spent, and what bears the old or the new text is resolved again
+module _ (s0 s1 s2 s3 s4 : List ℕ) (bytes old : Text) (k o : ℕ) (m : Module) (added : Texted bytes s0 k s1)
+    (still : Still s1 s2) (spends : Spends (length bytes) s2 s3) (again : ResolvedAgain (textIn s3 o) (textIn s3 k) s3 s4)
+    (row : sound s0 ≡ true → textIn s1 k ≡ bytes → keptIn s2 ≡ withModule m (keptIn s0)) (was : sound s0 ≡ true → textIn s1 o ≡ old) where
+  texts-same : (j : ℕ) → textIn s3 j ≡ textIn s1 j
+  texts-same j = text-still s2 s3 j (spends .still) ∙ text-still s1 s2 j still
+
+  module _ (h : sound s0 ≡ true) (room : keptIn s0 .spent + length bytes ≤ roomLimit) where
+    new-is : textIn s1 k ≡ bytes
+    new-is = added .is (fits s0 bytes h room) .0
+
+    after-row : keptIn s2 ≡ withModule m (keptIn s0)
+    after-row = row h new-is
+
+    after-room : keptIn s3 ≡ record { lowered = m; scopes = keptIn s0 .scopes; answers = keptIn s0 .answers; references = keptIn s0 .references; spent = keptIn s0 .spent + length bytes }
+    unfolding withModule
+    after-room = spends .does (rw after-row room) ∙ rw after-row
+
+    named-then : Nameable (scopesIn s3)
+    unfolding keptIn
+    named-then = rw (ap (λ (q : Kept). q .scopes) after-room) (sound-named s0 h)
+
+    pub changed-to : keptIn s4 ≡ changedTo (keptIn s0) m old bytes (keptIn s0 .spent + length bytes)
+    unfolding changedTo resolvedAgain keptAnswer
+    changed-to = again .does named-then ∙ rw (texts-same o, was h, texts-same k, new-is, after-room)
+
+module _ (s0 s1 s2 s3 s4 : List ℕ) (x k o o0 : ℕ) (bytes : Text) (r : Bool) (first : textIn s0 o0 ≡ nameAt (moduleIn s0) x .text)
+    (compared : r ≡ equalb (textIn s0 o0) bytes) (differs : r ≡ false) (added : Texted bytes s0 k s1)
+    (reads : textIn s1 o ≡ nameAt (moduleIn s1) x .text) (put : Renamed x k s1 s2) (spends : Spends (length bytes) s2 s3)
+    (again : ResolvedAgain (textIn s3 o) (textIn s3 k) s3 s4) where
+  name-differs : equalb (nameAt (moduleIn s0) x .text) bytes ≡ false
+  name-differs = rw (← first, ← compared, differs)
+
+  module-same : sound s0 ≡ true → moduleIn s1 ≡ moduleIn s0
+  unfolding keptIn
+  module-same h = ap (λ (q : Kept). q .lowered) (added .kept h)
+
+  name-row : sound s0 ≡ true → textIn s1 k ≡ bytes → keptIn s2 ≡ withModule (setName x bytes (moduleIn s0)) (keptIn s0)
+  name-row h e = put .does ∙ rw (e, module-same h, added .kept h)
+
+  name-was : sound s0 ≡ true → textIn s1 o ≡ nameAt (moduleIn s0) x .text
+  name-was h = reads ∙ rw (module-same h)
+
+  name-wrote : Wrote changing s0 s4
+  name-wrote = four-wrote texts-inside (added .wrote) names-inside (put .wrote) spent-inside (spends .wrote) again-inside (again .wrote)
+
+  -- THEOREM. The name has the text, and everything kept is as the definition of a change has it.
+  pub name-changed : (reply : ℕ) → Changes (changeName x bytes reply) s0 s4
+  unfolding newText keptIn
+  name-changed reply =
+      record {
+        wrote = name-wrote;
+        does = λ h room.
+            changed-to s0 s1 s2 s3 s4 bytes (nameAt (moduleIn s0) x .text) k o (setName x bytes (moduleIn s0)) added (put .still) spends again name-row name-was h room
+            ∙ sym (sets-name (keptIn s0) x bytes reply name-differs);
+      }
+
+-- ---- a Reference
+module _ (s : List ℕ) (e : ExprId) (bytes : Text) where
+  pub unchanged-reference : (k : ℕ) (r : Bool) → referenceText (exprAt (moduleIn s) e) ≡ some (textIn s k) → r ≡ equalb (textIn s k) bytes → r ≡ true → (reply : ℕ) → Changes (changeReference e bytes reply) s s
+  unfolding changed keptWith oldText newText keptIn orEmpty
+  unchanged-reference k r a b c reply = record { wrote = wrote-none changing s; does = λ _ _. rw (a, ← b, c) }
+
+module _ (s0 s1 s2 s3 s4 : List ℕ) (e k o o0 : ℕ) (bytes : Text) (r : Bool) (first : referenceText (exprAt (moduleIn s0) e) ≡ some (textIn s0 o0))
+    (compared : r ≡ equalb (textIn s0 o0) bytes) (differs : r ≡ false) (added : Texted bytes s0 k s1)
+    (reads : referenceText (exprAt (moduleIn s1) e) ≡ some (textIn s1 o)) (put : Reworded e k s1 s2) (spends : Spends (length bytes) s2 s3)
+    (again : ResolvedAgain (textIn s3 o) (textIn s3 k) s3 s4) where
+  word-differs : equalb (textIn s0 o0) bytes ≡ false
+  word-differs = rw (← compared, differs)
+
+  same-module : sound s0 ≡ true → moduleIn s1 ≡ moduleIn s0
+  unfolding keptIn
+  same-module h = ap (λ (q : Kept). q .lowered) (added .kept h)
+
+  word-row : sound s0 ≡ true → textIn s1 k ≡ bytes → keptIn s2 ≡ withModule (setReference e bytes (moduleIn s0)) (keptIn s0)
+  unfolding setIfReference whereText
+  word-row h q = put .does ∙ rw (q, same-module h, added .kept h, first)
+
+  word-was : sound s0 ≡ true → textIn s1 o ≡ textIn s0 o0
+  word-was h = let z : some (textIn s1 o) ≡ some (textIn s0 o0) = sym reads ∙ rw (same-module h) first in cc
+
+  word-wrote : Wrote changing s0 s4
+  word-wrote = four-wrote texts-inside (added .wrote) words-inside (put .wrote) spent-inside (spends .wrote) again-inside (again .wrote)
+
+  -- THEOREM. The Reference has the text, and everything kept is as the definition of a change has it.
+  pub reference-changed : (reply : ℕ) → Changes (changeReference e bytes reply) s0 s4
+  unfolding newText keptIn
+  reference-changed reply =
+      record {
+        wrote = word-wrote;
+        does = λ h room.
+            changed-to s0 s1 s2 s3 s4 bytes (textIn s0 o0) k o (setReference e bytes (moduleIn s0)) added (put .still) spends again word-row word-was h room
+            ∙ sym (sets-reference (keptIn s0) e bytes reply (textIn s0 o0) first word-differs);
+      }
+
+-- ---- the room
+module _ (s : List ℕ) (n before : ℕ) (b : before ≡ keptIn s .spent) where
+  pub spends-nothing : (roomLimit < before) ⊎ (roomLimit < n) → Spends n s s
+  spends-nothing o =
+      record {
+        wrote = wrote-none spending s;
+        still = record { same = refl };
+        does = λ l. ⊎-elim (λ z. absurd (omega (arith, b))) (λ z. absurd (omega arith)) o;
+      }
+
+  pub spends-more : (t : List ℕ) (v : ℕ) → v ≡ n → Spent (before + v) s t → Spends n s t
+  spends-more t v e p = record { wrote = p .wrote; still = p .still; does = λ l. p .does ∙ rw (b, e) }
+
+-- ---- a Reference stays one while a text is added
+pub reference-stays : (s0 s1 : List ℕ) (e k o : ℕ) (bytes : Text) → referenceText (exprAt (moduleIn s0) e) ≡ some (textIn s0 o) → Texted bytes s0 k s1
+    → referenceText (exprAt (moduleIn s1) e) ≡ none → ChangesReference e bytes s0 s1
+unfolding keptIn
+reference-stays s0 s1 e k o bytes first added gone =
+    record {
+      says = λ reply old h. record {
+        wrote = added-wrote;
+        does = λ sound room.
+            let same : moduleIn s1 ≡ moduleIn s0 = ap (λ (q : Kept). q .lowered) (added .kept sound) in
+            let there : referenceText (exprAt (moduleIn s1) e) ≡ some (textIn s0 o) = rw same first in
+            let z : _≡_ {A = ℕ} 0 1 = cc in
+            absurd (omega arith);
+      };
+      other = λ h. let z : _≡_ {A = ℕ} 0 1 = cc in absurd (omega arith);
+      wrote = added-wrote;
+    }
+  where
+    added-wrote : Wrote changing s0 s1
+    added-wrote = record { size = added .wrote .size; other = λ j out. added .wrote .other j (texts-inside .out j out) }
+
+-- ---- contracts
+pub no-reference : (s : List ℕ) (e : ExprId) (bytes : Text) (r : MaybeText) → maybeText s r ≡ referenceText (exprAt (moduleIn s) e) → r ≡ maybe-text.Absent → ChangesReference e bytes s s
+unfolding keptIn maybeText
+no-reference s e bytes r h q =
+    let n : referenceText (exprAt (moduleIn s) e) ≡ none = sym h ∙ ap (maybeText s) q in
+    record {
+      says = λ reply old k. let z : _≡_ {A = ℕ} 0 1 = cc in absurd (omega arith);
+      other = λ _. refl;
+      wrote = wrote-none changing s;
+    }
+
+pub text-read : (s : List ℕ) (e k : ℕ) (r : MaybeText) → maybeText s r ≡ referenceText (exprAt (moduleIn s) e) → r ≡ maybe-text.Text (record { 0 = k }) → referenceText (exprAt (moduleIn s) e) ≡ some (textIn s k)
+unfolding maybeText
+text-read s e k r h q = sym h ∙ ap (maybeText s) q
+
+pub text-lost : (s : List ℕ) (e : ℕ) (r : MaybeText) → maybeText s r ≡ referenceText (exprAt (moduleIn s) e) → r ≡ maybe-text.Absent → referenceText (exprAt (moduleIn s) e) ≡ none
+unfolding maybeText
+text-lost s e r h q = sym h ∙ ap (maybeText s) q
+
+pub changes-reference : (s t : List ℕ) (e k : ℕ) (bytes : Text) → referenceText (exprAt (moduleIn s) e) ≡ some (textIn s k) → ((reply : ℕ) → Changes (changeReference e bytes reply) s t) → ChangesReference e bytes s t
+unfolding keptIn
+changes-reference s t e k bytes h f =
+    record {
+      says = λ reply old _. f reply;
+      other = λ n. let z : _≡_ {A = ℕ} 0 1 = cc in absurd (omega arith);
+      wrote = f 0 .wrote;
+    }

@@ -1,0 +1,211 @@
+-- One answer worked out, and the answers of all expressions, in a store. Assumes nothing.
+use mathlib.Core.Path.{_≡_, refl, sym, ap, _∙_}
+use mathlib.Core.Bool.{Bool, true, false, _||_}
+use mathlib.Core.List.{List, [], _∷_}
+use mathlib.Core.Option.{Option, none, some}
+use Prim.Native.Nat.{ℕ, suc, _+_, _≤_, _<_}
+use native.Mathlib.Numerals.{add-one}
+use native.Mathlib.Omega.{arith}
+use lib.Dec.{eqb}
+use lib.ListN.{length, getD, set}
+use lib.Seq.{set-getD}
+use borrow.Author.Tests.{ne-eqb}
+use Rattle.words.specs.Equality.{equalb}
+use Rattle.words.specs.Order.{pick}
+use Rattle.spec.specs.Basics.{Text, ExprId, ScopeId}
+use Rattle.spec.specs.Module.{Module}
+use Rattle.spec.specs.Lower.{moduleOf}
+use Rattle.spec.specs.Scopes.{Scopes, exprAt}
+use Rattle.spec.specs.Answer as spec
+use Rattle.spec.specs.Answer.{textOfName, answerAt, scopeOfExpr, referenceText, answerOf, answer}
+use Rattle.spec.specs.Kept.{Kept, tabulate, answersAfresh, keptAnswer, bears, resolvedAgain}
+use Rattle.layout.specs.Layout.{absent, exprCount, exprLimit}
+use Rattle.layout.specs.Rows.{cap, rowsTo}
+use Rattle.layout.specs.Changes.{Wrote, Still}
+use Rattle.layout.specs.Regions.{answering}
+use Rattle.layout.specs.Texts.{textIn, maybeText}
+use Rattle.layout.specs.Exprs.{madeIn}
+use Rattle.layout.specs.States.{exprsOf, stateOf, moduleIn}
+use Rattle.layout.specs.Keeps.{scopesIn, answerIn, keptIn}
+use Rattle.layout.proofs.RowLaws.{length-rows}
+use Rattle.layout.proofs.Frames.{wrote-none, wrote-then, text-still}
+use Rattle.layout.proofs.WriteLaws.{still-then}
+use Rattle.words.specs.Words.{word}
+use Rattle.module.specs.declared.ids.MaybeText.{MaybeText}
+use Rattle.module.specs.declared.ids.MaybeText.the-variants as maybe-text
+use Rattle.kept.specs.declared.answers.Answer.{Answer}
+use Rattle.kept.specs.declared.answers.Answer.the-variants.{Unresolved}
+use Rattle.kept.specs.Answers.{answerWith, withsAt, answerNumber, insteadOf, answeredNow, keepAnswer, Answered}
+use Rattle.kept.proofs.UseLaws.{unanswered, answered}
+use Rattle.nameres.specs.Resolution.{Nameable, withAnswers, setTo, Answers, oneAfresh, oneAgain, firstAfresh, firstAgain}
+use Rattle.nameres.proofs.NumberLaws.{answer-held}
+use Rattle.nameres.proofs.AnswerLoops.{getD-setTo-past, setTo-all}
+
+scopes-kept : (s : List ℕ) → keptIn s .scopes ≡ scopesIn s
+unfolding keptIn
+scopes-kept s = refl
+
+module-kept : (s : List ℕ) → keptIn s .lowered ≡ moduleIn s
+unfolding keptIn
+module-kept s = refl
+
+same-kept : (k : Kept) (as′ : List (Option spec.Answer)) → as′ ≡ k .answers → withAnswers as′ k ≡ k
+unfolding withAnswers
+same-kept k as′ e = rw e
+
+-- ---- one expression
+-- what is no Reference has no answer
+pub afresh-other : (s t : List ℕ) (e : ExprId) (r : MaybeText) → maybeText s r ≡ referenceText (exprAt (moduleIn s) e) → r ≡ maybe-text.Absent → Answered e Unresolved s t → Answers (oneAfresh e) s t
+unfolding oneAfresh answer answerOf maybeText keepAnswer answerNumber answeredNow insteadOf withAnswers
+afresh-other s t e r h q put =
+    let n : referenceText (exprAt (moduleIn s) e) ≡ none = sym h ∙ ap (maybeText s) q in
+    record { wrote = put .wrote; still = put .still; does = λ _. put .does ∙ rw (unanswered s e n, module-kept s, n) }
+
+module _ (s t : List ℕ) (e k : ℕ) (r : MaybeText) (a : Answer)
+    (h : maybeText s r ≡ referenceText (exprAt (moduleIn s) e)) (q : r ≡ maybe-text.Text (record { 0 = k }))
+    (says : answerWith a (withsAt (scopesIn s) e) ≡ answerAt (textOfName (moduleIn s)) (scopesIn s .scopes) (textIn s k) (scopeOfExpr (scopesIn s) e))
+    (put : Answered e a s t) where
+  has-text : referenceText (exprAt (moduleIn s) e) ≡ some (textIn s k)
+  unfolding maybeText
+  has-text = sym h ∙ ap (maybeText s) q
+
+  worked-out : answer (keptIn s .lowered) (keptIn s .scopes) e ≡ some (answerWith a (withsAt (scopesIn s) e))
+  unfolding answer answerOf
+  worked-out = rw (module-kept s, scopes-kept s, has-text, says)
+
+  now-kept : answeredNow (keptIn s) e a ≡ some (answerWith a (withsAt (scopesIn s) e))
+  unfolding answeredNow keptIn
+  now-kept = answered s e (textIn s k) (answerWith a (withsAt (scopesIn s) e)) has-text
+
+  -- a Reference has the answer that is worked out
+  pub afresh-reference : Answers (oneAfresh e) s t
+  unfolding oneAfresh keepAnswer withAnswers
+  afresh-reference =
+      record {
+        wrote = put .wrote;
+        still = put .still;
+        does = λ named.
+            put .does ∙ rw (ne-eqb (answerNumber a) absent (answer-held (textOfName (moduleIn s)) (scopesIn s) (textIn s k) (scopeOfExpr (scopesIn s) e) a (withsAt (scopesIn s) e) named says), now-kept, worked-out);
+      }
+
+-- ---- resolved again or not
+module _ (s t : List ℕ) (old new : Text) (e : ExprId) where
+  again-as : (f : Option spec.Answer) → resolvedAgain (keptIn s .lowered) (keptIn s .scopes) (keptAnswer (keptIn s)) old new e ≡ f → Answers (λ k. set (k .answers) e f) s t → Answers (oneAgain old new e) s t
+  unfolding oneAgain
+  again-as f h w = record { wrote = w .wrote; still = w .still; does = λ named. w .does named ∙ rw h }
+
+module _ (s : List ℕ) (old new : Text) (e : ExprId) where
+  -- it bears neither text
+  pub again-unborne : (bears old (referenceText (exprAt (moduleIn s) e)) || bears new (referenceText (exprAt (moduleIn s) e))) ≡ false → Answers (oneAgain old new e) s s
+  unfolding oneAgain resolvedAgain keptAnswer
+  again-unborne h =
+      record {
+        wrote = wrote-none answering s;
+        still = record { same = refl };
+        does = λ _. sym (same-kept (keptIn s) _ (rw (module-kept s, h) (set-getD (keptIn s .answers) e none)));
+      }
+
+  -- it bears one of them
+  pub again-borne : (t : List ℕ) → (bears old (referenceText (exprAt (moduleIn s) e)) || bears new (referenceText (exprAt (moduleIn s) e))) ≡ true → Answers (oneAfresh e) s t → Answers (oneAgain old new e) s t
+  unfolding oneAgain oneAfresh resolvedAgain
+  again-borne t h w = record { wrote = w .wrote; still = w .still; does = λ named. w .does named ∙ rw (module-kept s, h) }
+
+-- ---- all expressions, one after the other
+named-still : (as′ : List (Option spec.Answer)) (s u : List ℕ) → keptIn u ≡ withAnswers as′ (keptIn s) → Nameable (scopesIn s) → Nameable (scopesIn u)
+unfolding withAnswers
+named-still as′ s u e h = rw (sym (scopes-kept u) ∙ ap (λ (k : Kept). k .scopes) e ∙ scopes-kept s) h
+
+pub afresh-none : (s : List ℕ) → Answers (firstAfresh 0) s s
+unfolding firstAfresh setTo
+afresh-none s = record { wrote = wrote-none answering s; still = record { same = refl }; does = λ _. sym (same-kept (keptIn s) (keptIn s .answers) refl) }
+
+pub again-none : (old new : Text) (s : List ℕ) → Answers (firstAgain old new 0) s s
+unfolding firstAgain setTo
+again-none old new s = record { wrote = wrote-none answering s; still = record { same = refl }; does = λ _. sym (same-kept (keptIn s) (keptIn s .answers) refl) }
+
+pub afresh-more : (n : ℕ) (s u t : List ℕ) → Answers (firstAfresh n) s u → Answers (oneAfresh n) u t → Answers (firstAfresh (n + 1)) s t
+unfolding firstAfresh oneAfresh setTo withAnswers
+afresh-more n s u t a b =
+    record {
+      wrote = wrote-then (a .wrote) (b .wrote);
+      still = still-then (a .still) (b .still);
+      does = λ named. b .does (named-still _ s u (a .does named) named) ∙ rw (a .does named, add-one);
+    }
+
+again-more : (old new : Text) (n : ℕ) (s u t : List ℕ) → Answers (firstAgain old new n) s u → Answers (oneAgain old new n) u t → Answers (firstAgain old new (n + 1)) s t
+unfolding firstAgain oneAgain setTo withAnswers resolvedAgain keptAnswer
+again-more old new n s u t a b =
+    record {
+      wrote = wrote-then (a .wrote) (b .wrote);
+      still = still-then (a .still) (b .still);
+      does = λ named.
+          b .does (named-still _ s u (a .does named) named)
+          ∙ rw (a .does named, add-one, getD-setTo-past (resolvedAgain (keptIn s .lowered) (keptIn s .scopes) (keptAnswer (keptIn s)) old new) none n (keptIn s .answers) n (omega arith));
+    }
+
+-- the texts stay, so that it is the same two all along
+pub again-next : (old new n : ℕ) (s u t : List ℕ) → Answers (firstAgain (textIn s old) (textIn s new) n) s u
+    → Answers (oneAgain (textIn u old) (textIn u new) n) u t → Answers (firstAgain (textIn s old) (textIn s new) (n + 1)) s t
+again-next old new n s u t a b =
+    again-more (textIn s old) (textIn s new) n s u t a
+    (rw (text-still s u old (a .still), text-still s u new (a .still)) at b)
+
+-- as many answers as expressions
+answers-many : (s : List ℕ) → length (keptIn s .answers) ≡ length (exprsOf s)
+unfolding keptIn exprsOf
+answers-many s = length-rows (answerIn s) (cap (word s exprCount) exprLimit) ∙ sym (length-rows (madeIn s) (cap (word s exprCount) exprLimit))
+
+exprs-many : (s : List ℕ) → length (keptIn s .lowered .exprs) ≡ length (exprsOf s)
+unfolding keptIn moduleIn moduleOf stateOf
+exprs-many s = refl
+
+afresh-all : (n : ℕ) (s t : List ℕ) → n ≡ length (exprsOf s) → Answers (firstAfresh n) s t → Answers (λ k. answersAfresh (k .lowered) (k .scopes)) s t
+unfolding firstAfresh answersAfresh
+afresh-all n s t e a =
+    record {
+      wrote = a .wrote;
+      still = a .still;
+      does = λ named. a .does named ∙ ap (λ (as′ : List (Option spec.Answer)). withAnswers as′ (keptIn s))
+          (setTo-all (answer (keptIn s .lowered) (keptIn s .scopes)) none n (keptIn s .answers) (keptIn s .lowered .exprs) (answers-many s ∙ sym e) (exprs-many s ∙ sym e));
+    }
+
+again-all : (old new : Text) (n : ℕ) (s t : List ℕ) → n ≡ length (exprsOf s) → Answers (firstAgain old new n) s t
+    → Answers (λ k. tabulate (resolvedAgain (k .lowered) (k .scopes) (keptAnswer k) old new) 0 (k .lowered .exprs)) s t
+unfolding firstAgain
+again-all old new n s t e a =
+    record {
+      wrote = a .wrote;
+      still = a .still;
+      does = λ named. a .does named ∙ ap (λ (as′ : List (Option spec.Answer)). withAnswers as′ (keptIn s))
+          (setTo-all (resolvedAgain (keptIn s .lowered) (keptIn s .scopes) (keptAnswer (keptIn s)) old new) none n (keptIn s .answers) (keptIn s .lowered .exprs) (answers-many s ∙ sym e) (exprs-many s ∙ sym e));
+    }
+
+-- at the end of the loop
+pub afresh-done : (e n : ℕ) (s t : List ℕ) → Answers (firstAfresh e) s t → e ≤ n → n ≤ e → n ≡ length (exprsOf s) → Answers (λ k. answersAfresh (k .lowered) (k .scopes)) s t
+afresh-done e n s t a l h c = afresh-all e s t (omega (arith, c)) a
+
+pub again-done : (old new : Text) (e n : ℕ) (s t : List ℕ) → Answers (firstAgain old new e) s t → e ≤ n → n ≤ e → n ≡ length (exprsOf s)
+    → Answers (λ k. tabulate (resolvedAgain (k .lowered) (k .scopes) (keptAnswer k) old new) 0 (k .lowered .exprs)) s t
+again-done old new e n s t a l h c = again-all old new e s t (omega (arith, c)) a
+
+-- ---- which expressions bear one of two texts
+abbrev either : Text → Text → Option Text → Bool
+either old new o = bears old o || bears new o
+
+module _ (s : List ℕ) (e : ExprId) (old new : Text) (r : MaybeText) (h : maybeText s r ≡ referenceText (exprAt (moduleIn s) e)) where
+  pub bears-none : r ≡ maybe-text.Absent → false ≡ either old new (referenceText (exprAt (moduleIn s) e))
+  unfolding bears maybeText
+  bears-none q = ap (either old new) (sym (ap (maybeText s) q) ∙ h)
+
+  module _ (k : ℕ) (q : r ≡ maybe-text.Text (record { 0 = k })) (a : Bool) (first : a ≡ equalb old (textIn s k)) where
+    borne : either old new (some (textIn s k)) ≡ either old new (referenceText (exprAt (moduleIn s) e))
+    unfolding maybeText
+    borne = ap (either old new) (sym (ap (maybeText s) q) ∙ h)
+
+    pub bears-old : a ≡ true → true ≡ either old new (referenceText (exprAt (moduleIn s) e))
+    unfolding bears
+    bears-old z = ap (λ (b : Bool). b || equalb new (textIn s k)) (sym z ∙ first) ∙ borne
+
+    pub bears-new : (b : Bool) → a ≡ false → b ≡ equalb new (textIn s k) → b ≡ either old new (referenceText (exprAt (moduleIn s) e))
+    unfolding bears
+    bears-new b z second = second ∙ ap (λ (c : Bool). c || equalb new (textIn s k)) (sym z ∙ first) ∙ borne

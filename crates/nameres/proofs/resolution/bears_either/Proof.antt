@@ -1,0 +1,42 @@
+-- `nameres::resolution::bears_either` meets its contract. Written by a script from tools/answers_nameres.txt. Assumes nothing.
+use borrow.Author.Needs.{needs}
+use Rattle.nameres.proofs.StepLaws.{bears-none, bears-old, bears-new}
+use Rattle.nameres.proofs.resolution.bears_either.Statement.{statement}
+use Rattle.nameres.proofs.resolution.bears_either.Tie as tie
+
+reference-text-requires : tie.Need-reference-text-requires
+reference-text-requires c κs = search needs
+
+enum-known-t : tie.Need-enum-known-t
+enum-known-t c = search needs
+
+enum-told : tie.Need-enum-told
+enum-told c = search needs
+
+returns : tie.Need-returns
+returns c = bears-none _ _ _ _ _ (c .before .before .reference-text .ensures) (c .enum-told .given .1)
+
+texts-equal-requires : tie.Need-texts-equal-requires
+texts-equal-requires c κs = search needs
+
+returns-2 : tie.Need-returns-2
+returns-2 c = bears-old _ _ _ _ _ (c .before .before .before .before .before .reference-text .ensures) _ (c .before .before .before .t .given .1) _ (c .before .texts-equal .ensures) (c .if1 .taken)
+
+texts-equal-requires-2 : tie.Need-texts-equal-requires-2
+texts-equal-requires-2 c κs = search needs
+
+returns-3 : tie.Need-returns-3
+returns-3 c = bears-new _ _ _ _ _ (c .before .before .before .before .before .before .reference-text .ensures) _ (c .before .before .before .before .t .given .1) _ (c .before .before .texts-equal .ensures) _ (c .before .if1 .left) (c .texts-equal2 .ensures)
+
+pub bears-either-spec : {M : Type 1} → statement M
+bears-either-spec =
+    tie.close
+    (tie.spec
+    reference-text-requires
+    enum-known-t
+    enum-told
+    returns
+    texts-equal-requires
+    returns-2
+    texts-equal-requires-2
+    returns-3)

@@ -1,0 +1,3 @@
+pub mod Resolution
+pub mod Changed
+pub mod Loaded

@@ -1,0 +1,67 @@
+-- compute_name_resolution in a store: the kept answer of every Reference, and the step that a change of one text needs.
+use mathlib.Core.Path.{_≡_}
+use mathlib.Core.List.{List}
+use mathlib.Core.Option.{Option}
+use Prim.Native.Nat.{ℕ, zero, suc}
+use lib.ListN.{set}
+use Rattle.spec.specs.Basics.{Text, ExprId, NameId, ScopeId}
+use Rattle.spec.specs.Scopes.{Scopes}
+use Rattle.spec.specs.Answer.{Answer, answer, scopeAt}
+use Rattle.spec.specs.Kept.{Kept, answersAfresh, referencesAfresh, keptAnswer, resolvedAgain, changedTo}
+use Rattle.spec.proofs.ScopeRange.{KindIn}
+use Rattle.layout.specs.Layout.{exprLimit, nameLimit}
+use Rattle.layout.specs.Changes.{Wrote, Still}
+use Rattle.layout.specs.Regions.{answering, resolving}
+use Rattle.layout.specs.States.{moduleIn}
+use Rattle.layout.specs.Keeps.{scopesIn, keptIn}
+
+-- What each scope holds has a number that a row can hold: so it is in what a load leaves, and in every sound store.
+pub record Nameable (w : Scopes) : Type 0 where
+  pub kinds : (s : ScopeId) → KindIn nameLimit exprLimit (scopeAt (w .scopes) s .kind)
+
+unfoldable pub withAnswers : List (Option Answer) → Kept → Kept
+withAnswers as′ k = record { lowered = k .lowered; scopes = k .scopes; answers = as′; references = k .references; spent = k .spent }
+
+-- the first n of a list, each set anew
+unfoldable pub setTo : {A : Type 0} → (ℕ → A) → ℕ → List A → List A
+setTo f zero xs = xs
+setTo f (suc n) xs = set (setTo f n xs) n (f n)
+
+-- The answers are as `as′` says of what was kept, and nothing else is another.
+pub record Answers (as′ : Kept → List (Option Answer)) (s t : List ℕ) : Type 0 where
+  pub wrote : Wrote answering s t
+  pub still : Still s t
+  pub does : Nameable (scopesIn s) → keptIn t ≡ withAnswers (as′ (keptIn s)) (keptIn s)
+
+-- the answer of the expression e worked out afresh, or again where it bears the old or the new text
+unfoldable pub oneAfresh : ExprId → Kept → List (Option Answer)
+oneAfresh e k = set (k .answers) e (answer (k .lowered) (k .scopes) e)
+
+unfoldable pub oneAgain : Text → Text → ExprId → Kept → List (Option Answer)
+oneAgain old new e k = set (k .answers) e (resolvedAgain (k .lowered) (k .scopes) (keptAnswer k) old new e)
+
+-- the answers of the first n expressions
+unfoldable pub firstAfresh : ℕ → Kept → List (Option Answer)
+firstAfresh n k = setTo (answer (k .lowered) (k .scopes)) n (k .answers)
+
+unfoldable pub firstAgain : Text → Text → ℕ → Kept → List (Option Answer)
+firstAgain old new n k = setTo (resolvedAgain (k .lowered) (k .scopes) (keptAnswer k) old new) n (k .answers)
+
+-- ---- with the kept references, which are listed anew
+-- All is kept as it is worked out afresh.
+pub record Resolved (s t : List ℕ) : Type 0 where
+  pub wrote : Wrote resolving s t
+  pub still : Still s t
+  pub does : Nameable (scopesIn s) → keptIn t ≡ (record {
+    lowered = keptIn s .lowered;
+    scopes = keptIn s .scopes;
+    answers = answersAfresh (keptIn s .lowered) (keptIn s .scopes);
+    references = referencesAfresh (keptIn s .lowered) (keptIn s .scopes);
+    spent = keptIn s .spent;
+  })
+
+-- The References that bear the old or the new text are resolved again, and the kept lists are up to date.
+pub record ResolvedAgain (old new : Text) (s t : List ℕ) : Type 0 where
+  pub wrote : Wrote resolving s t
+  pub still : Still s t
+  pub does : Nameable (scopesIn s) → keptIn t ≡ changedTo (keptIn s) (keptIn s .lowered) old new (keptIn s .spent)

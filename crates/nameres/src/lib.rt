@@ -1,0 +1,12 @@
+// nameres.rs, from compute_name_resolution on: the kept answer of every Reference and the kept references of
+//
+// It knows no byte offset. Every contract is an equation with the definitions of what a store keeps.
+mod changes;
+mod resolution;
+mod whole;
+
+pub use changes::change_name;
+pub use changes::change_reference;
+pub use resolution::compute_name_resolution;
+pub use resolution::resolve_again;
+pub use whole::keep_module;

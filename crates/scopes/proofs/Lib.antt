@@ -1,0 +1,9 @@
+pub mod Growth
+pub mod Steps
+pub mod ItemLaws
+pub mod PickLaws
+pub mod OpenLaws
+pub mod EnterLaws
+pub mod TraverseLaws
+pub mod FormLaws
+pub mod WholeLaws

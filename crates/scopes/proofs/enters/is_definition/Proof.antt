@@ -1,0 +1,56 @@
+-- `scopes::enters::is_definition` meets its contract. Written by a script from tools/answers_scopes.txt. Assumes nothing.
+use borrow.Author.Needs.{needs}
+use Rattle.module.specs.Kinds.{kindOf}
+use Rattle.spec.specs.Scopes.{isDefinition}
+use Rattle.scopes.proofs.enters.is_definition.Statement.{statement}
+use Rattle.scopes.proofs.enters.is_definition.Tie as tie
+
+enum-told : tie.Need-enum-told
+enum-told c = search needs
+
+enum-told-2 : tie.Need-enum-told-2
+enum-told-2 c = search needs
+
+enum-told-3 : tie.Need-enum-told-3
+enum-told-3 c = search needs
+
+enum-told-4 : tie.Need-enum-told-4
+enum-told-4 c = search needs
+
+enum-told-5 : tie.Need-enum-told-5
+enum-told-5 c = search needs
+
+returns : tie.Need-returns
+unfolding isDefinition kindOf
+returns c = rw (c .enum-told .given .1)
+
+returns-2 : tie.Need-returns-2
+unfolding isDefinition kindOf
+returns-2 c = rw (c .enum-told2 .given .1)
+
+returns-3 : tie.Need-returns-3
+unfolding isDefinition kindOf
+returns-3 c = rw (c .enum-told3 .given .1)
+
+returns-4 : tie.Need-returns-4
+unfolding isDefinition kindOf
+returns-4 c = rw (c .enum-told4 .given .1)
+
+returns-5 : tie.Need-returns-5
+unfolding isDefinition kindOf
+returns-5 c = rw (c .enum-told5 .given .1)
+
+pub is-definition-spec : {M : Type 1} → statement M
+is-definition-spec =
+    tie.close
+    (tie.spec
+    enum-told
+    enum-told-2
+    enum-told-3
+    enum-told-4
+    enum-told-5
+    returns
+    returns-2
+    returns-3
+    returns-4
+    returns-5)

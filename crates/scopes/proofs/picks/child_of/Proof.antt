@@ -1,0 +1,57 @@
+-- `scopes::picks::child_of` meets its contract. Written by a script from tools/answers_scopes.txt. Assumes nothing.
+use borrow.Author.Needs.{needs}
+use Rattle.scopes.specs.Picking.{picksOf, picked}
+use Rattle.store.specs.Codes.{itemWith}
+use Rattle.layout.specs.Exprs.{children}
+use Rattle.scopes.proofs.picks.child_of.Statement.{statement}
+use Rattle.scopes.proofs.picks.child_of.Tie as tie
+
+enum-known-item : tie.Need-enum-known-item
+enum-known-item c = search needs
+
+enum-told : tie.Need-enum-told
+enum-told c = search needs
+
+enum-told-2 : tie.Need-enum-told-2
+enum-told-2 c = search needs
+
+enum-told-3 : tie.Need-enum-told-3
+enum-told-3 c = search needs
+
+enum-told-4 : tie.Need-enum-told-4
+enum-told-4 c = search needs
+
+returns : tie.Need-returns
+unfolding picksOf picked itemWith children
+returns c = record { same = λ texts. rw (c .before .item .given .1) }
+
+returns-2 : tie.Need-returns-2
+unfolding picksOf picked itemWith children
+returns-2 c = record { same = λ texts. rw (c .enum-told .given .1) }
+
+returns-3 : tie.Need-returns-3
+unfolding picksOf picked itemWith children
+returns-3 c = record { same = λ texts. rw (c .enum-told2 .given .1) }
+
+returns-4 : tie.Need-returns-4
+unfolding picksOf picked itemWith children
+returns-4 c = record { same = λ texts. rw (c .enum-told3 .given .1) }
+
+returns-5 : tie.Need-returns-5
+unfolding picksOf picked itemWith children
+returns-5 c = record { same = λ texts. rw (c .enum-told4 .given .1) }
+
+pub child-of-spec : {M : Type 1} → statement M
+child-of-spec =
+    tie.close
+    (tie.spec
+    enum-known-item
+    enum-told
+    enum-told-2
+    enum-told-3
+    enum-told-4
+    returns
+    returns-2
+    returns-3
+    returns-4
+    returns-5)

@@ -1,0 +1,4 @@
+pub mod Walking
+pub mod Picking
+pub mod Entering
+pub mod Whole
