@@ -33,6 +33,11 @@ mod raw {
         pub fn drive_ended(store: *mut u8, length: usize, name: u32, n: u32);
         pub fn drive_bring(sheet: *const u8, sheet_length: usize, store: *mut u8, length: usize) -> u32;
         pub fn drive_lower(store: *mut u8, length: usize);
+        pub fn drive_walk(store: *mut u8, length: usize);
+        pub fn drive_resolve(store: *mut u8, length: usize);
+        pub fn drive_change_name(store: *mut u8, length: usize, name: u32, text: *const u8, text_length: usize);
+        pub fn drive_change_reference(store: *mut u8, length: usize, expr: u32, text: *const u8, text_length: usize);
+        pub fn drive_withs(store: *const u8, length: usize, expr: u32, buffer: *mut u8, buffer_length: usize) -> u32;
     }
 }
 
@@ -156,4 +161,29 @@ pub fn bring(sheet: &[u8], store: &mut [u8]) -> u32 {
 /// Lowers the nodes of a sheet that was brought into a cleared store. Nodes that are no tree can take time without end.
 pub fn lower(store: &mut [u8]) {
     unsafe { raw::drive_lower(store.as_mut_ptr(), store.len()) }
+}
+
+/// The scopes of the lowered module, with the names entered in each, and the scope of each expression.
+pub fn walk(store: &mut [u8]) {
+    unsafe { raw::drive_walk(store.as_mut_ptr(), store.len()) }
+}
+
+/// The answer of every Reference and the references of every name, over the scopes in the store. No byte of the change room is spent.
+pub fn resolve(store: &mut [u8]) {
+    unsafe { raw::drive_resolve(store.as_mut_ptr(), store.len()) }
+}
+
+/// Sets the text of a name, and brings answers and references up to date.
+pub fn change_name(store: &mut [u8], name: u32, text: &[u8]) {
+    unsafe { raw::drive_change_name(store.as_mut_ptr(), store.len(), name, text.as_ptr(), text.len()) }
+}
+
+/// Sets the text of a Reference, and brings answers and references up to date.
+pub fn change_reference(store: &mut [u8], expr: u32, text: &[u8]) {
+    unsafe { raw::drive_change_reference(store.as_mut_ptr(), store.len(), expr, text.as_ptr(), text.len()) }
+}
+
+/// How many Withs are around an expression; they are in the buffer, the innermost first, if it has room for all of them.
+pub fn withs(store: &[u8], expr: u32, buffer: &mut [u8]) -> u32 {
+    unsafe { raw::drive_withs(store.as_ptr(), store.len(), expr, buffer.as_mut_ptr(), buffer.len()) }
 }

@@ -4,8 +4,10 @@
 #![allow(clippy::missing_safety_doc, clippy::too_many_arguments)]
 
 mod lower;
+mod nameres;
 
 pub use lower::drive_lower;
+pub use nameres::{drive_change_name, drive_change_reference, drive_resolve, drive_walk, drive_withs};
 
 use crate::store::layout::{self, get, header, put, Table, NONE};
 use crate::store::page;
@@ -59,7 +61,7 @@ impl Room<'_> {
     fn placed(&mut self, bytes: &[u8]) -> u32 {
         let number = self.get(header::TEXTS);
         let end = number + 4 + bytes.len();
-        if end > layout::TEXTS_UNSPENT {
+        if end > layout::TEXTS_UNSPENT + 5 * self.get(header::SPENT) {
             return NONE;
         }
         self.put(layout::TEXTS + number, &[bytes.len() as u32]);

@@ -10,10 +10,8 @@ use generate::Rng;
 use sheet::Node;
 use tix::{with_big_stack, Tix};
 
-/// A sheet that is longer than this is not printed; its name is enough to have it again.
-const PRINTED: usize = 1 << 16;
 /// After so many sheets the store is filled with other bytes.
-const SOILED: u64 = 64;
+pub const SOILED: u64 = 64;
 
 /// Lowers the points, the sheets at the limits, and so many random ones of up to so many nodes; whether all was as it should be.
 pub fn run(count: u64, most: usize, seed: u64) -> Result<bool, String> {
@@ -82,13 +80,8 @@ impl Run {
     /// Counts a difference and prints the first with its sheet.
     fn differs(&mut self, sheet: &Named, what: &str) {
         self.differences += 1;
-        if self.differences > 1 {
-            return;
-        }
-        println!("FIRST DIFFERENCE: {}: {what}", sheet.name);
-        let written = sheet::write(&sheet.nodes);
-        if written.len() <= PRINTED {
-            println!("{}", String::from_utf8_lossy(&written));
+        if self.differences == 1 {
+            sheet.print_difference(what);
         }
     }
 }

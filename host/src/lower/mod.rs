@@ -6,22 +6,36 @@
 
 pub mod compare;
 pub mod expected;
-mod points;
-mod sheets;
+pub mod points;
+pub mod sheets;
 pub mod speed;
 pub mod stack;
 
 use crate::drive;
 use sheet::Node;
 
+/// A sheet that is longer than this is not printed; its name is enough to have it again.
+const PRINTED: usize = 1 << 16;
+
 /// A sheet and what it is called in a report.
-struct Named {
-    name: String,
-    nodes: Vec<Node>,
+pub struct Named {
+    pub name: String,
+    pub nodes: Vec<Node>,
+}
+
+impl Named {
+    /// Prints what is wrong with it, and the sheet itself where it is short.
+    pub fn print_difference(&self, what: &str) {
+        println!("FIRST DIFFERENCE: {}: {what}", self.name);
+        let written = sheet::write(&self.nodes);
+        if written.len() <= PRINTED {
+            println!("{}", String::from_utf8_lossy(&written));
+        }
+    }
 }
 
 /// A cleared store with the nodes in it.
-fn bring(store: &mut [u8], nodes: &[Node]) -> Result<(), String> {
+pub fn bring(store: &mut [u8], nodes: &[Node]) -> Result<(), String> {
     drive::clear(store);
     match drive::bring(&sheet::write(nodes), store) {
         1 => Ok(()),

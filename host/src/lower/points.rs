@@ -129,7 +129,7 @@ pub fn points() -> Result<Vec<Named>, String> {
     POINTS.iter().copied().chain([every_kind]).map(point).collect()
 }
 
-fn point((name, notation): (&str, &str)) -> Result<Named, String> {
+pub fn point((name, notation): (&str, &str)) -> Result<Named, String> {
     let nodes = short::parse(notation).map_err(|why| format!("{name}: {why}"))?;
     Ok(Named { name: format!("{name}: {notation}"), nodes })
 }

@@ -79,11 +79,13 @@ fn named(name: String, nodes: Vec<Node>) -> Named {
     Named { name, nodes }
 }
 
-fn tree(name: &str, inner: Tree) -> Named {
+/// A sheet whose root has this tree in it.
+pub fn tree(name: &str, inner: Tree) -> Named {
     named(name.to_string(), Tree::full(ROOT, vec![inner]).nodes(&mut Rng::new(1), Pointers::Nested))
 }
 
-fn entry(path: Vec<Tree>, value: Option<Tree>) -> Tree {
+/// An entry of a set or a let.
+pub fn entry(path: Vec<Tree>, value: Option<Tree>) -> Tree {
     Tree::new(ATTRPATH_VALUE, vec![Some(Tree::full(ATTRPATH, path)), value])
 }
 

@@ -13,9 +13,9 @@ use std::hint::black_box;
 use std::time::Instant;
 use tix::{with_big_stack, Tix};
 
-const ROUNDS: usize = 51;
+pub const ROUNDS: usize = 51;
 /// How many random sheets there are of each size.
-const SHEETS: u64 = 15;
+pub const SHEETS: u64 = 15;
 
 /// Prints a table of random sheets of two sizes, large sets and merged sets.
 pub fn run() -> Result<(), String> {
@@ -36,7 +36,8 @@ pub fn run() -> Result<(), String> {
     Ok(())
 }
 
-fn random(nodes: usize, sets: bool) -> Vec<Vec<Node>> {
+/// The random sheets of a size.
+pub fn random(nodes: usize, sets: bool) -> Vec<Vec<Node>> {
     (0..SHEETS).map(|seed| sheets::exactly(seed, nodes, sets)).collect()
 }
 
@@ -97,7 +98,7 @@ fn clear(store: &mut [u8], texts: u32) {
 }
 
 /// Microseconds that the work takes; what it gives is dropped after the clock has stopped.
-fn time<T>(work: impl FnOnce() -> T) -> f64 {
+pub fn time<T>(work: impl FnOnce() -> T) -> f64 {
     let start = Instant::now();
     let made = black_box(work());
     let taken = start.elapsed().as_secs_f64() * 1e6;
@@ -105,7 +106,7 @@ fn time<T>(work: impl FnOnce() -> T) -> f64 {
     taken
 }
 
-fn median(mut numbers: Vec<f64>) -> f64 {
+pub fn median(mut numbers: Vec<f64>) -> f64 {
     numbers.sort_by(f64::total_cmp);
     numbers[numbers.len() / 2]
 }

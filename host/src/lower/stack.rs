@@ -46,7 +46,7 @@ fn of_rust(nodes: &[Node]) -> Result<usize, String> {
 }
 
 /// How many bytes of stack the work takes, on a thread of its own.
-fn used(work: impl FnOnce() + Send) -> Result<usize, String> {
+pub fn used(work: impl FnOnce() + Send) -> Result<usize, String> {
     let used = thread::scope(|scope| {
         let thread = thread::Builder::new().stack_size(PAINTED + REST).spawn_scoped(scope, || painted(work));
         thread.map_err(|why| why.to_string())?.join().map_err(|_| "the work panicked".to_string())

@@ -22,6 +22,7 @@ const NUMBERS: &[(&str, Number)] = &[
     ("name", |store| drive::name(store, NONE, 0, POINTER)),
     ("scope", |store| drive::scope(store, 0, 0)),
     ("with", |store| drive::with(store, 0, 0)),
+    ("withs", |store| drive::withs(store, 0, &mut [])),
 ];
 
 /// Calls that return nothing.
@@ -39,6 +40,10 @@ const OTHERS: &[(&str, Other)] = &[
     ("reference", |store| drive::reference(store, 0, 0, 0)),
     ("ended", |store| drive::ended(store, 0, 1)),
     ("lower", |store| drive::lower(store)),
+    ("walk", |store| drive::walk(store)),
+    ("resolve", |store| drive::resolve(store)),
+    ("change_name", |store| drive::change_name(store, 0, b"x")),
+    ("change_reference", |store| drive::change_reference(store, 0, b"x")),
 ];
 
 /// Every call on stores of too few bytes returns that nothing was done, and writes nothing.

@@ -28,8 +28,8 @@ pub mod speed;
 use generate::Rng;
 
 /// What bytes hold that no call may write.
-const UNWRITTEN: u8 = 0xa5;
-const MARGIN: usize = 64;
+pub const UNWRITTEN: u8 = 0xa5;
+pub const MARGIN: usize = 64;
 
 /// A store to lend, which goes on a little past its last byte and lies between bytes that no call may write.
 pub struct Lent {

@@ -1,0 +1,148 @@
+//! Sheets loaded in a store: scopes, names entered, answers and references that are read back are the Rust's, and the module is as it was.
+
+use super::expected::Right;
+use super::{load, points, sheets, told};
+use crate::lower::compare::SOILED;
+use crate::lower::{self, Named};
+use crate::store::Lent;
+use canon::{Facts, Reading, ScopeKind};
+use generate::Rng;
+use sheet::Node;
+use tix::{with_big_stack, Tix};
+
+/// Resolves the points, the sheets at the limits, and so many random ones of up to so many nodes; whether all was as it should be.
+pub fn run(count: u64, most: usize, seed: u64) -> Result<bool, String> {
+    with_big_stack(|| {
+        let mut run = Run::new(seed);
+        run.family("points that need care", points()?);
+        run.family("sheets at the limits", lower::sheets::limits().into_iter().chain(sheets::large()));
+        let random = (0..count).map(|i| {
+            let seed = seed.wrapping_add(i);
+            Named { name: format!("random, of up to {most} nodes, seed {seed}"), nodes: lower::sheets::random(seed, most) }
+        });
+        run.family("random sheets", random);
+        run.seen.print_kinds();
+        println!("{} sheets, {} differences", run.seen.sheets, run.differences);
+        Ok(run.differences == 0)
+    })
+}
+
+struct Run {
+    lent: Lent,
+    rng: Rng,
+    seen: Seen,
+    differences: u64,
+}
+
+/// What there was to compare.
+#[derive(Default, Clone, Copy)]
+struct Seen {
+    sheets: u64,
+    nodes: u64,
+    exprs: u64,
+    unwalked: u64,
+    names: u64,
+    unheld: u64,
+    hidden: u64,
+    scopes: u64,
+    withs: u64,
+    /// How many References have which of the answers 0 to 3.
+    answers: [u64; 4],
+}
+
+impl Run {
+    fn new(seed: u64) -> Self {
+        Run { lent: Lent::new(), rng: Rng::new(seed), seen: Seen::default(), differences: 0 }
+    }
+
+    fn family(&mut self, family: &str, sheets: impl IntoIterator<Item = Named>) {
+        let before = self.seen;
+        for sheet in sheets {
+            self.sheet(&sheet);
+        }
+        self.seen.print(family, before);
+    }
+
+    fn sheet(&mut self, sheet: &Named) {
+        if self.seen.sheets.is_multiple_of(SOILED) {
+            self.lent.soil(&mut self.rng);
+        }
+        let facts = Tix::new(&sheet.nodes).facts();
+        self.seen.add(&sheet.nodes, &facts);
+        if let Err(why) = resolved(self.lent.store(), &sheet.nodes, facts) {
+            self.differs(sheet, &why);
+        }
+        if !self.lent.margins_stand() {
+            self.differs(sheet, "bytes outside the store were written");
+            self.lent = Lent::new();
+        }
+    }
+
+    /// Counts a difference and prints the first with its sheet.
+    fn differs(&mut self, sheet: &Named, what: &str) {
+        self.differences += 1;
+        if self.differences == 1 {
+            sheet.print_difference(what);
+        }
+    }
+}
+
+/// Loads a sheet in a store that may hold anything, and compares.
+fn resolved(store: &mut [u8], nodes: &[Node], facts: Facts) -> Result<(), String> {
+    load(store, nodes)?;
+    let right = Right::loaded(nodes, facts);
+    right.holds(store)?;
+    right.holders(store)?;
+    told::all_lists(store, &right)
+}
+
+impl Seen {
+    fn add(&mut self, nodes: &[Node], facts: &Facts) {
+        self.sheets += 1;
+        self.nodes += nodes.len() as u64;
+        self.exprs += facts.module.exprs.len() as u64;
+        self.unwalked += facts.scopes.of_expr.iter().filter(|scope| scope.is_none()).count() as u64;
+        self.names += facts.module.names.len() as u64;
+        self.unheld += facts.module.names.len() as u64;
+        for scope in &facts.scopes.scopes {
+            self.scopes += 1;
+            match &scope.kind {
+                ScopeKind::With(_) => self.withs += 1,
+                ScopeKind::Definitions(names) => {
+                    self.unheld -= names.len() as u64;
+                    self.hidden += hidden(facts, names);
+                }
+            }
+        }
+        for answer in facts.resolution.answers.values() {
+            self.answers[answer.number() as usize] += 1;
+        }
+    }
+
+    fn print(&self, family: &str, before: Seen) {
+        let references = |seen: &Seen| seen.answers.iter().sum::<u64>();
+        println!(
+            "{family}: {} sheets of {} nodes; {} expressions, {} References, {} names, {} scopes",
+            self.sheets - before.sheets,
+            self.nodes - before.nodes,
+            self.exprs - before.exprs,
+            references(self) - references(&before),
+            self.names - before.names,
+            self.scopes - before.scopes
+        );
+    }
+
+    fn print_kinds(&self) {
+        let [none, definitions, builtins, withs] = self.answers;
+        println!("References answered with nothing, a definition, a builtin, Withs: {none}, {definitions}, {builtins}, {withs}");
+        println!("expressions without a scope: {}; scopes for Withs: {}", self.unwalked, self.withs);
+        println!("names that no scope holds: {}; names that a later one hides: {}", self.unheld, self.hidden);
+    }
+}
+
+/// How many names of a scope have the text of a later one.
+fn hidden(facts: &Facts, names: &[u32]) -> u64 {
+    let mut later = std::collections::HashSet::new();
+    let texts = names.iter().rev().map(|&name| &facts.module.names[name as usize].text);
+    texts.filter(|text| !later.insert(*text)).count() as u64
+}
