@@ -3,6 +3,7 @@
 
 mod compare;
 mod drive;
+mod lending;
 mod lower;
 mod nameres;
 mod speed;

@@ -2,40 +2,30 @@
 
 use super::{bring, expected, points, sheets, Named};
 use crate::drive;
+use crate::lending::{random, Lending};
 use crate::store::coverage::Coverage;
 use crate::store::layout::{get, header};
 use crate::store::same::same_module;
-use crate::store::{nodes, page, Lent};
-use generate::Rng;
+use crate::store::{nodes, page};
 use sheet::Node;
 use tix::{with_big_stack, Tix};
-
-/// After so many sheets the store is filled with other bytes.
-pub const SOILED: u64 = 64;
 
 /// Lowers the points, the sheets at the limits, and so many random ones of up to so many nodes; whether all was as it should be.
 pub fn run(count: u64, most: usize, seed: u64) -> Result<bool, String> {
     with_big_stack(|| {
-        let mut run = Run::new(seed);
+        let mut run = Run { lending: Lending::new(seed), seen: Seen::default(), coverage: Coverage::default() };
         run.family("points that need care", points::points()?);
         run.family("sheets at the limits", sheets::limits());
-        let random = (0..count).map(|i| {
-            let seed = seed.wrapping_add(i);
-            Named { name: format!("random, of up to {most} nodes, seed {seed}"), nodes: sheets::random(seed, most) }
-        });
-        run.family("random sheets", random);
+        run.family("random sheets", random(count, most, seed));
         run.coverage.print_sorts();
-        println!("{} sheets, {} differences", run.seen.sheets, run.differences);
-        Ok(run.differences == 0)
+        Ok(run.lending.end())
     })
 }
 
 struct Run {
-    lent: Lent,
-    rng: Rng,
+    lending: Lending,
     seen: Seen,
     coverage: Coverage,
-    differences: u64,
 }
 
 /// What there was to compare.
@@ -49,40 +39,16 @@ struct Seen {
 }
 
 impl Run {
-    fn new(seed: u64) -> Self {
-        Run { lent: Lent::new(), rng: Rng::new(seed), seen: Seen::default(), coverage: Coverage::default(), differences: 0 }
-    }
-
     fn family(&mut self, family: &str, sheets: impl IntoIterator<Item = Named>) {
         let before = self.seen;
         for sheet in sheets {
-            self.sheet(&sheet);
+            let right = Tix::new(&sheet.nodes).module();
+            self.seen.add(&sheet.nodes, &right);
+            if self.lending.sheet(&sheet, |store| lowered(store, &sheet.nodes, &right)) {
+                self.coverage.add(self.lending.store());
+            }
         }
         self.seen.print(family, before);
-    }
-
-    fn sheet(&mut self, sheet: &Named) {
-        if self.seen.sheets.is_multiple_of(SOILED) {
-            self.lent.soil(&mut self.rng);
-        }
-        let right = Tix::new(&sheet.nodes).module();
-        self.seen.add(&sheet.nodes, &right);
-        match lowered(self.lent.store(), &sheet.nodes, &right) {
-            Ok(()) => self.coverage.add(self.lent.store()),
-            Err(why) => self.differs(sheet, &why),
-        }
-        if !self.lent.margins_stand() {
-            self.differs(sheet, "bytes outside the store were written");
-            self.lent = Lent::new();
-        }
-    }
-
-    /// Counts a difference and prints the first with its sheet.
-    fn differs(&mut self, sheet: &Named, what: &str) {
-        self.differences += 1;
-        if self.differences == 1 {
-            sheet.print_difference(what);
-        }
     }
 }
 

@@ -34,6 +34,14 @@ impl Named {
     }
 }
 
+/// The checker accepts what is written of each.
+#[cfg(test)]
+pub fn assert_accepted(sheets: impl IntoIterator<Item = Named>) {
+    for Named { name, nodes } in sheets {
+        assert!(sheet::check::check(&sheet::write(&nodes)).is_ok_and(|read| read == nodes), "{name}");
+    }
+}
+
 /// A cleared store with the nodes in it.
 pub fn bring(store: &mut [u8], nodes: &[Node]) -> Result<(), String> {
     drive::clear(store);

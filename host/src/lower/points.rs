@@ -136,13 +136,10 @@ pub fn point((name, notation): (&str, &str)) -> Result<Named, String> {
 
 #[cfg(test)]
 mod tests {
-    use super::*;
-    use sheet::check::check;
+    use crate::lower::assert_accepted;
 
     #[test]
     fn all_are_accepted() {
-        for Named { name, nodes } in points().unwrap() {
-            assert!(check(&sheet::write(&nodes)).is_ok_and(|read| read == nodes), "{name}");
-        }
+        assert_accepted(super::points().unwrap());
     }
 }

@@ -155,13 +155,12 @@ fn shuffle(numbers: &mut [usize]) {
 #[cfg(test)]
 mod tests {
     use super::*;
+    use crate::lower::assert_accepted;
     use sheet::check::check;
 
     #[test]
     fn all_are_accepted() {
-        for Named { name, nodes } in limits() {
-            assert!(check(&sheet::write(&nodes)).is_ok_and(|read| read == nodes), "{name}");
-        }
+        assert_accepted(limits());
         for seed in 0..200 {
             let nodes = random(seed, 300);
             assert!(nodes.len() <= 300 && check(&sheet::write(&nodes)).is_ok(), "seed {seed}");

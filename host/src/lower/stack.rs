@@ -17,9 +17,17 @@ const REST: usize = 1 << 20;
 const NEAR: usize = 4_096;
 const PAINT: u64 = 0xc7a5_93e1_5b6d_8f37;
 
-/// Prints the bytes of stack for the deepest sheets of every sort, and which takes the most.
 pub fn run() -> Result<(), String> {
-    println!("| Sheet | Nodes | Compiled | Rust |");
+    print("Compiled", of_compiled, of_rust)
+}
+
+/// Prints the bytes of stack for the deepest sheets of every sort, and which takes the most.
+pub fn print(
+    column: &str,
+    of_compiled: fn(&Named) -> Result<usize, String>,
+    of_rust: fn(&[Node]) -> Result<usize, String>,
+) -> Result<(), String> {
+    println!("| Sheet | Nodes | {column} | Rust |");
     println!("|---|---|---|---|");
     let mut most = (0, String::new());
     for sheet in sheets::deep().into_iter().chain(sheets::merged()) {

@@ -2,36 +2,27 @@
 
 use super::expected::Right;
 use super::{load, points, sheets, told};
-use crate::lower::compare::SOILED;
+use crate::lending::{random, Lending};
 use crate::lower::{self, Named};
-use crate::store::Lent;
 use canon::{Facts, Reading, ScopeKind};
-use generate::Rng;
 use sheet::Node;
 use tix::{with_big_stack, Tix};
 
 /// Resolves the points, the sheets at the limits, and so many random ones of up to so many nodes; whether all was as it should be.
 pub fn run(count: u64, most: usize, seed: u64) -> Result<bool, String> {
     with_big_stack(|| {
-        let mut run = Run::new(seed);
+        let mut run = Run { lending: Lending::new(seed), seen: Seen::default() };
         run.family("points that need care", points()?);
         run.family("sheets at the limits", lower::sheets::limits().into_iter().chain(sheets::large()));
-        let random = (0..count).map(|i| {
-            let seed = seed.wrapping_add(i);
-            Named { name: format!("random, of up to {most} nodes, seed {seed}"), nodes: lower::sheets::random(seed, most) }
-        });
-        run.family("random sheets", random);
+        run.family("random sheets", random(count, most, seed));
         run.seen.print_kinds();
-        println!("{} sheets, {} differences", run.seen.sheets, run.differences);
-        Ok(run.differences == 0)
+        Ok(run.lending.end())
     })
 }
 
 struct Run {
-    lent: Lent,
-    rng: Rng,
+    lending: Lending,
     seen: Seen,
-    differences: u64,
 }
 
 /// What there was to compare.
@@ -51,39 +42,14 @@ struct Seen {
 }
 
 impl Run {
-    fn new(seed: u64) -> Self {
-        Run { lent: Lent::new(), rng: Rng::new(seed), seen: Seen::default(), differences: 0 }
-    }
-
     fn family(&mut self, family: &str, sheets: impl IntoIterator<Item = Named>) {
         let before = self.seen;
         for sheet in sheets {
-            self.sheet(&sheet);
+            let facts = Tix::new(&sheet.nodes).facts();
+            self.seen.add(&sheet.nodes, &facts);
+            self.lending.sheet(&sheet, |store| resolved(store, &sheet.nodes, facts));
         }
         self.seen.print(family, before);
-    }
-
-    fn sheet(&mut self, sheet: &Named) {
-        if self.seen.sheets.is_multiple_of(SOILED) {
-            self.lent.soil(&mut self.rng);
-        }
-        let facts = Tix::new(&sheet.nodes).facts();
-        self.seen.add(&sheet.nodes, &facts);
-        if let Err(why) = resolved(self.lent.store(), &sheet.nodes, facts) {
-            self.differs(sheet, &why);
-        }
-        if !self.lent.margins_stand() {
-            self.differs(sheet, "bytes outside the store were written");
-            self.lent = Lent::new();
-        }
-    }
-
-    /// Counts a difference and prints the first with its sheet.
-    fn differs(&mut self, sheet: &Named, what: &str) {
-        self.differences += 1;
-        if self.differences == 1 {
-            sheet.print_difference(what);
-        }
     }
 }
 

@@ -81,13 +81,10 @@ fn builtins() -> Named {
 
 #[cfg(test)]
 mod tests {
-    use super::*;
-    use sheet::check::check;
+    use crate::lower::assert_accepted;
 
     #[test]
     fn all_are_accepted() {
-        for Named { name, nodes } in points().unwrap() {
-            assert!(check(&sheet::write(&nodes)).is_ok_and(|read| read == nodes), "{name}");
-        }
+        assert_accepted(super::points().unwrap());
     }
 }

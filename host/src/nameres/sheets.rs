@@ -82,12 +82,12 @@ fn nested_withs(levels: usize) -> Tree {
 #[cfg(test)]
 mod tests {
     use super::*;
-    use sheet::check::check;
+    use crate::lower::assert_accepted;
 
     #[test]
     fn all_are_accepted_and_large() {
+        assert_accepted(large());
         for Named { name, nodes } in large() {
-            assert!(check(&sheet::write(&nodes)).is_ok_and(|read| read == nodes), "{name}");
             assert!(nodes.len() > 3_900, "{name} has {} nodes", nodes.len());
         }
     }

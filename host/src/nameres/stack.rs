@@ -3,26 +3,16 @@
 
 use super::expected::Right;
 use crate::drive;
-use crate::lower::stack::used;
-use crate::lower::{bring, sheets, Named};
+use crate::lower::stack::{print, used};
+use crate::lower::{bring, Named};
 use crate::store::Lent;
 use canon::Reading;
 use lang_ast::{classify, ModuleScopes};
 use sheet::Node;
 use tix::{with_big_stack, Tix};
 
-/// Prints the bytes of stack for the deepest sheets of every sort, and which takes the most.
 pub fn run() -> Result<(), String> {
-    println!("| Sheet | Nodes | Walk | Rust |");
-    println!("|---|---|---|---|");
-    let mut most = (0, String::new());
-    for sheet in sheets::deep().into_iter().chain(sheets::merged()) {
-        let (compiled, rust) = (of_compiled(&sheet)?, of_rust(&sheet.nodes)?);
-        println!("| {} | {} | {compiled} | {rust} |", sheet.name, sheet.nodes.len());
-        most = most.max((compiled, sheet.name));
-    }
-    println!("bytes of stack below the caller's frame; the most: {} bytes, {}", most.0, most.1);
-    Ok(())
+    print("Walk", of_compiled, of_rust)
 }
 
 fn of_compiled(sheet: &Named) -> Result<usize, String> {
