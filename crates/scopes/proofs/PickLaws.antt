@@ -5,23 +5,15 @@ use Prim.Native.Nat.{ℕ, _+_, _≤_, _<_}
 use native.Mathlib.Omega.{arith}
 use lib.ListN.{length, take, getD}
 use lib.Seq.{take-all}
-use Rattle.spec.specs.Basics.{Text, ExprId, ScopeId}
-use Rattle.module.specs.declared.expr.Item as code
+use Rattle.spec.specs.Basics.{ExprId, ScopeId}
 use Rattle.layout.specs.Exprs.{Item, child}
-use Rattle.store.specs.Codes.{itemWith}
 use Rattle.store.specs.Readers.{itemsAtExpr, itemAtExpr}
 use Rattle.scopes.specs.declared.picks.Pass.{Pass}
-use Rattle.scopes.specs.declared.picks.Picks.{Picks}
-use Rattle.scopes.specs.Picking.{picksOf, picked, Picked}
+use Rattle.scopes.specs.Picking.{picked}
 use Rattle.scopes.specs.Walking.{Follows}
 use Rattle.scopes.proofs.Steps.{follows-none, follows-then}
 use Rattle.scopes.proofs.ItemLaws.{items-walked, picked-more, picked-none}
 
--- what an item that was read hands on
-pub item-picks : (texts : ℕ → Text) {pass : Pass} {i : code.Item} {j : Item} {r : Picks} → Picked pass i r → itemWith texts i ≡ j → picksOf r ≡ picked pass (j ∷ [])
-item-picks texts {pass} x q = x .same texts ∙ ap (λ (j : Item). picked pass (j ∷ [])) q
-
--- ---- the loop over the items
 pub items-start : (pass : Pass) (e : ExprId) (scope : ScopeId) (s : List ℕ) → Follows e scope (picked pass (take 0 (itemsAtExpr s e))) s s
 items-start pass e scope s = rw (picked-none pass) (follows-none s)
 

@@ -1,12 +1,8 @@
 -- What an expression's items hand on to a walk, by the pass over them.
-use mathlib.Core.Path.{_≡_}
 use mathlib.Core.List.{List, [], _∷_}
-use Prim.Native.Nat.{ℕ}
-use Rattle.spec.specs.Basics.{Text, ExprId}
+use Rattle.spec.specs.Basics.{ExprId}
 use Rattle.spec.specs.Scopes.{fieldDefaults, inherited, plainValues, keysAndValues}
-use Rattle.module.specs.declared.expr.Item as code
 use Rattle.layout.specs.Exprs.{Item, children, fields, statics, dynamics}
-use Rattle.store.specs.Codes.{itemWith}
 use Rattle.scopes.specs.declared.picks.Pass.{Pass}
 use Rattle.scopes.specs.declared.picks.Pass.the-variants.{Children, Defaults, Inherited, Values, Dynamics}
 use Rattle.scopes.specs.declared.picks.Picks.{Picks}
@@ -23,7 +19,3 @@ picked Defaults is = fieldDefaults (fields is)
 picked Inherited is = inherited (statics is)
 picked Values is = plainValues (statics is)
 picked Dynamics is = keysAndValues (dynamics is)
-
--- what one item hands on, whatever its text is
-pub record Picked (pass : Pass) (i : code.Item) (r : Picks) : Type 0 where
-  pub same : (texts : ℕ → Text) → picksOf r ≡ picked pass (itemWith texts i ∷ [])

@@ -7,7 +7,7 @@ ghost use Rattle.module.specs.Ids.{exprOf};
 ghost use Rattle.layout.specs.Layout.{Long};
 ghost use Rattle.store.specs.Readers.{itemAtExpr};
 ghost use Rattle.scopes.specs.declared.picks.Pass.the-variants as pass-of;
-ghost use Rattle.scopes.specs.Picking.{picksOf, picked, Picked};
+ghost use Rattle.scopes.specs.Picking.{picksOf, picked};
 use module::BindingValue;
 use module::ExprId;
 use module::Item;
@@ -43,10 +43,11 @@ pub fn maybe(e: MaybeExpr) -> Picks
     }
 }
 
-fn child_of(item: Item) -> Picks
-    ensures { λ r. ⌜ Picked pass-of.Children item r ⌝ }
+fn child_of(store: &[u8], e: ExprId, i: u32) -> Picks
+    requires { ⌜ Long (now store) ⌝ }
+    ensures { λ r. ⌜ picksOf r ≡ picked pass-of.Children (itemAtExpr (now (store .entry)) (e .0) i ∷ []) ⌝ }
 {
-    match item {
+    match read_item(store, e, i) {
         Item::Child(c) => Picks::One(c),
         Item::Text(_) => Picks::Nothing,
         Item::Field(_, _) => Picks::Nothing,
@@ -55,10 +56,11 @@ fn child_of(item: Item) -> Picks
     }
 }
 
-fn default_of(item: Item) -> Picks
-    ensures { λ r. ⌜ Picked pass-of.Defaults item r ⌝ }
+fn default_of(store: &[u8], e: ExprId, i: u32) -> Picks
+    requires { ⌜ Long (now store) ⌝ }
+    ensures { λ r. ⌜ picksOf r ≡ picked pass-of.Defaults (itemAtExpr (now (store .entry)) (e .0) i ∷ []) ⌝ }
 {
-    match item {
+    match read_item(store, e, i) {
         Item::Child(_) => Picks::Nothing,
         Item::Text(_) => Picks::Nothing,
         Item::Field(_, d) => maybe(d),
@@ -67,10 +69,11 @@ fn default_of(item: Item) -> Picks
     }
 }
 
-fn inherited_of(item: Item) -> Picks
-    ensures { λ r. ⌜ Picked pass-of.Inherited item r ⌝ }
+fn inherited_of(store: &[u8], e: ExprId, i: u32) -> Picks
+    requires { ⌜ Long (now store) ⌝ }
+    ensures { λ r. ⌜ picksOf r ≡ picked pass-of.Inherited (itemAtExpr (now (store .entry)) (e .0) i ∷ []) ⌝ }
 {
-    match item {
+    match read_item(store, e, i) {
         Item::Child(_) => Picks::Nothing,
         Item::Text(_) => Picks::Nothing,
         Item::Field(_, _) => Picks::Nothing,
@@ -84,10 +87,11 @@ fn inherited_of(item: Item) -> Picks
 }
 
 // The Select of an inherit with a source is not walked.
-fn value_of(item: Item) -> Picks
-    ensures { λ r. ⌜ Picked pass-of.Values item r ⌝ }
+fn value_of(store: &[u8], e: ExprId, i: u32) -> Picks
+    requires { ⌜ Long (now store) ⌝ }
+    ensures { λ r. ⌜ picksOf r ≡ picked pass-of.Values (itemAtExpr (now (store .entry)) (e .0) i ∷ []) ⌝ }
 {
-    match item {
+    match read_item(store, e, i) {
         Item::Child(_) => Picks::Nothing,
         Item::Text(_) => Picks::Nothing,
         Item::Field(_, _) => Picks::Nothing,
@@ -100,10 +104,11 @@ fn value_of(item: Item) -> Picks
     }
 }
 
-fn dynamic_of(item: Item) -> Picks
-    ensures { λ r. ⌜ Picked pass-of.Dynamics item r ⌝ }
+fn dynamic_of(store: &[u8], e: ExprId, i: u32) -> Picks
+    requires { ⌜ Long (now store) ⌝ }
+    ensures { λ r. ⌜ picksOf r ≡ picked pass-of.Dynamics (itemAtExpr (now (store .entry)) (e .0) i ∷ []) ⌝ }
 {
-    match item {
+    match read_item(store, e, i) {
         Item::Child(_) => Picks::Nothing,
         Item::Text(_) => Picks::Nothing,
         Item::Field(_, _) => Picks::Nothing,
@@ -112,17 +117,17 @@ fn dynamic_of(item: Item) -> Picks
     }
 }
 
-// What the item with the number i of the expression e hands on in a pass.
+// What the item with the number i of the expression e hands on in a pass. Each pass reads the item by
+// itself, so that in the compiled code its test is one of the item's tag.
 pub fn pick_item(store: &[u8], e: ExprId, i: u32, pass: Pass) -> Picks
     requires { ⌜ Long (now store) ⌝ }
     ensures { λ r. ⌜ picksOf r ≡ picked pass (itemAtExpr (now (store .entry)) (e .0) i ∷ []) ⌝ }
 {
-    let item = read_item(store, e, i);
     match pass {
-        Pass::Children => child_of(item),
-        Pass::Defaults => default_of(item),
-        Pass::Inherited => inherited_of(item),
-        Pass::Values => value_of(item),
-        Pass::Dynamics => dynamic_of(item),
+        Pass::Children => child_of(store, e, i),
+        Pass::Defaults => default_of(store, e, i),
+        Pass::Inherited => inherited_of(store, e, i),
+        Pass::Values => value_of(store, e, i),
+        Pass::Dynamics => dynamic_of(store, e, i),
     }
 }

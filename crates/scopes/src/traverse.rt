@@ -28,6 +28,8 @@ use module::ScopeId;
 use store::item_count;
 use store::read_expr;
 
+// The expression e stands in the scope, and so do its children, but for those in a scope that it opens.
+// A With opens one for its body alone; an Assert's body is walked before its condition.
 pub fn traverse_expr(store: &mut [u8], e: ExprId, scope: ScopeId)
     requires { ⌜ Long (now store) ⌝ }
     ensures { λ _. ⌜ Walks (scope .0) (λ m. traverseExpr m (scope .0) (e .0)) (now (store .entry)) tt (now (store .exit)) ⌝ }
@@ -101,7 +103,7 @@ fn walk_defaults(store: &mut [u8], e: ExprId, p: Pattern, scope: ScopeId)
     }
 }
 
-// A Select's set, path and default, or those of a HasAttr, which has none.
+// The set, the path and the default of a Select; a HasAttr has no default.
 fn walk_path(store: &mut [u8], e: ExprId, set: ExprId, d: MaybeExpr, scope: ScopeId)
     requires { ⌜ Long (now store) ⌝ }
     ensures { λ _. ⌜ Follows (e .0) (scope .0) (set .0 ∷ (children (itemsAtExpr (now (store .entry)) (e .0)) ++ oneOrNone (exprOf d))) (now (store .entry)) (now (store .exit)) ⌝ }
@@ -125,6 +127,7 @@ fn walk_items(store: &mut [u8], e: ExprId, pass: Pass, scope: ScopeId)
     }
 }
 
+// What one item hands on.
 fn walk_picks(store: &mut [u8], e: ExprId, handed: Picks, scope: ScopeId)
     requires { ⌜ Long (now store) ⌝ }
     ensures { λ _. ⌜ Follows (e .0) (scope .0) (picksOf handed) (now (store .entry)) (now (store .exit)) ⌝ }
@@ -136,6 +139,7 @@ fn walk_picks(store: &mut [u8], e: ExprId, handed: Picks, scope: ScopeId)
     }
 }
 
+// Two children, in this order.
 fn pair(store: &mut [u8], e: ExprId, a: ExprId, b: ExprId, scope: ScopeId)
     requires { ⌜ Long (now store) ⌝ }
     ensures { λ _. ⌜ Follows (e .0) (scope .0) (a .0 ∷ b .0 ∷ []) (now (store .entry)) (now (store .exit)) ⌝ }
@@ -144,6 +148,7 @@ fn pair(store: &mut [u8], e: ExprId, a: ExprId, b: ExprId, scope: ScopeId)
     child(store, e, b, scope);
 }
 
+// A child whose number is below its owner's.
 fn child(store: &mut [u8], e: ExprId, c: ExprId, scope: ScopeId)
     requires { ⌜ Long (now store) ⌝ }
     ensures { λ _. ⌜ Follows (e .0) (scope .0) (c .0 ∷ []) (now (store .entry)) (now (store .exit)) ⌝ }

@@ -6,8 +6,11 @@ use Rattle.layout.specs.Exprs.{children}
 use Rattle.scopes.proofs.picks.child_of.Statement.{statement}
 use Rattle.scopes.proofs.picks.child_of.Tie as tie
 
-enum-known-item : tie.Need-enum-known-item
-enum-known-item c = search needs
+read-item-requires : tie.Need-read-item-requires
+read-item-requires c κs = search needs
+
+enum-known-c : tie.Need-enum-known-c
+enum-known-c c = search needs
 
 enum-told : tie.Need-enum-told
 enum-told c = search needs
@@ -23,29 +26,30 @@ enum-told-4 c = search needs
 
 returns : tie.Need-returns
 unfolding picksOf picked itemWith children
-returns c = record { same = λ texts. rw (c .before .item .given .1) }
+returns c = rw (← (c .before .before .before .read-item .ensures), c .before .c .given .1)
 
 returns-2 : tie.Need-returns-2
 unfolding picksOf picked itemWith children
-returns-2 c = record { same = λ texts. rw (c .enum-told .given .1) }
+returns-2 c = rw (← (c .before .before .read-item .ensures), c .enum-told .given .1)
 
 returns-3 : tie.Need-returns-3
 unfolding picksOf picked itemWith children
-returns-3 c = record { same = λ texts. rw (c .enum-told2 .given .1) }
+returns-3 c = rw (← (c .before .before .read-item .ensures), c .enum-told2 .given .1)
 
 returns-4 : tie.Need-returns-4
 unfolding picksOf picked itemWith children
-returns-4 c = record { same = λ texts. rw (c .enum-told3 .given .1) }
+returns-4 c = rw (← (c .before .before .read-item .ensures), c .enum-told3 .given .1)
 
 returns-5 : tie.Need-returns-5
 unfolding picksOf picked itemWith children
-returns-5 c = record { same = λ texts. rw (c .enum-told4 .given .1) }
+returns-5 c = rw (← (c .before .before .read-item .ensures), c .enum-told4 .given .1)
 
 pub child-of-spec : {M : Type 1} → statement M
 child-of-spec =
     tie.close
     (tie.spec
-    enum-known-item
+    read-item-requires
+    enum-known-c
     enum-told
     enum-told-2
     enum-told-3

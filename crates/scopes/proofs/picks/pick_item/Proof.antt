@@ -1,11 +1,7 @@
 -- `scopes::picks::pick_item` meets its contract. Written by a script from tools/answers_scopes.txt. Assumes nothing.
 use borrow.Author.Needs.{needs}
-use Rattle.scopes.proofs.PickLaws.{item-picks}
 use Rattle.scopes.proofs.picks.pick_item.Statement.{statement}
 use Rattle.scopes.proofs.picks.pick_item.Tie as tie
-
-read-item-requires : tie.Need-read-item-requires
-read-item-requires c κs = search needs
 
 enum-told : tie.Need-enum-told
 enum-told c = search needs
@@ -38,25 +34,24 @@ dynamic-of-requires : tie.Need-dynamic-of-requires
 dynamic-of-requires c κs = search needs
 
 returns : tie.Need-returns
-returns c = rw (c .before .enum-told .given .1) (item-picks _ (c .child-of .ensures) (c .before .before .before .read-item .ensures))
+returns c = rw (c .before .enum-told .given .1) (c .child-of .ensures)
 
 returns-2 : tie.Need-returns-2
-returns-2 c = rw (c .before .enum-told2 .given .1) (item-picks _ (c .default-of .ensures) (c .before .before .before .read-item .ensures))
+returns-2 c = rw (c .before .enum-told2 .given .1) (c .default-of .ensures)
 
 returns-3 : tie.Need-returns-3
-returns-3 c = rw (c .before .enum-told3 .given .1) (item-picks _ (c .inherited-of .ensures) (c .before .before .before .read-item .ensures))
+returns-3 c = rw (c .before .enum-told3 .given .1) (c .inherited-of .ensures)
 
 returns-4 : tie.Need-returns-4
-returns-4 c = rw (c .before .enum-told4 .given .1) (item-picks _ (c .value-of .ensures) (c .before .before .before .read-item .ensures))
+returns-4 c = rw (c .before .enum-told4 .given .1) (c .value-of .ensures)
 
 returns-5 : tie.Need-returns-5
-returns-5 c = rw (c .before .enum-told5 .given .1) (item-picks _ (c .dynamic-of .ensures) (c .before .before .before .read-item .ensures))
+returns-5 c = rw (c .before .enum-told5 .given .1) (c .dynamic-of .ensures)
 
 pub pick-item-spec : {M : Type 1} → statement M
 pick-item-spec =
     tie.close
     (tie.spec
-    read-item-requires
     enum-told
     child-of-requires
     enum-told-2
