@@ -6,3 +6,4 @@ pub mod WithLaws
 pub mod NameLaws
 pub mod CountLaws
 pub mod ListingLaws
+pub mod NumberLaws

@@ -6,12 +6,15 @@ mod chain;
 mod definitions;
 mod listing;
 mod names;
+mod numbers;
 mod search;
 mod withs;
 
 pub use definitions::defined_in;
 pub use listing::list_withs;
 pub use names::resolve_name;
+pub use numbers::answer_number;
+pub use numbers::answer_value;
 pub use search::Found;
 pub use search::innermost;
 pub use withs::has_with;
