@@ -1,7 +1,7 @@
--- Demand 3, of the definitions: whatever store keeps what `Kept` says and does what `keptOutcome` and `keptAfter` say, every list of calls from an accepted
--- load comes to what the plain book comes to, keeps every answer as it is worked out afresh, and moves only what it may.
--- Assumes nothing.
-use mathlib.Core.Path.{_≡_, refl, sym, ap, _∙_}
+-- Demand 3, of the definitions: whatever store keeps what `Kept` says and does what `keptOutcome` and `keptAfter` say, every call of every list comes to what
+-- the plain book comes to, leaves every answer as it is worked out afresh, and moves only what it may. The list may begin at any store whose answers are those
+-- worked out afresh and whose names are each held by one scope; an accepted load leaves such a store. Assumes nothing.
+use mathlib.Core.Path.{_≡_, refl, sym, ap, subst, _∙_}
 use mathlib.Core.Logic.{_≢_}
 use mathlib.Core.Bool.{Bool, true, false, _&&_, not}
 use mathlib.Core.List.{List, _∷_, map}
@@ -12,14 +12,15 @@ use Rattle.words.specs.Equality.{equalb}
 use Rattle.words.proofs.EqualityLaws.{equalb-refl}
 use Rattle.spec.specs.Basics.{ExprId}
 use Rattle.spec.specs.Sheet.{Node}
+use Rattle.spec.specs.Module.{Module}
 use Rattle.spec.specs.Lower.{lowerModule}
 use Rattle.spec.specs.Scopes.{scopesOf}
 use Rattle.spec.specs.Answer.{answer}
 use Rattle.spec.specs.Calls.{Condition, fit, Call, askReference, askName, changeReference, changeName, Outcome, isAccepted, oldText, newText, withText}
 use Rattle.spec.specs.Book.{Book, bookOf, bookOutcome, bookWith, bookAfter, bookOutcomes, bookAfterAll}
-use Rattle.spec.specs.Kept.{Kept, loaded, keptAnswer, keptOutcome, keptWith, keptAfter, changedTo}
-use Rattle.spec.specs.Demand.{mayMove, Moves, Called, LoadedFrom, Trace, done, call, eachMoves, Holds, Demand3}
-use Rattle.spec.proofs.Locality.{HeldOnce, reference-moves-itself, name-moves}
+use Rattle.spec.specs.Kept.{Kept, keptOf, loaded, keptAnswer, keptOutcome, keptWith, keptAfter, changedTo}
+use Rattle.spec.specs.Demand.{HeldOnce, mayMove, Moves, Called, Starts, LoadedFrom, Trace, done, call, KeepsBook, Turn, Follows, Holds, Demand3}
+use Rattle.spec.proofs.Locality.{reference-moves-itself, name-moves}
 use Rattle.spec.proofs.Linear.{lowered-held-once}
 use Rattle.spec.proofs.Incremental.{Afresh, asBook, kept-answer, outcome-afresh, stays-afresh, after-afresh}
 
@@ -65,7 +66,7 @@ module _ (k : Kept) (fresh : Afresh k) where
   module _ (once : HeldOnce (k .scopes)) where
     -- the changed text moves what it may
     text-moves : (c : Call) (e : ExprId) → answer (withText (k .lowered) c) (k .scopes) e ≢ answer (k .lowered) (k .scopes) e → mayMove k c e
-    unfolding mayMove withText oldText
+    unfolding mayMove withText oldText newText
     text-moves (askReference n buffer reply) e moved = moved refl
     text-moves (askName n buffer reply) e moved = moved refl
     text-moves (changeReference n t reply) e moved = go (eqb e n) refl
@@ -87,88 +88,124 @@ module _ (k : Kept) (fresh : Afresh k) where
 
 -- ---- a list of calls
 module _ (Store : Type 0) (kept : Store → Kept) (condition : Store → Condition) where
-  -- a call that finds a store as it should be
-  module _ (s t : Store) (c : Call) (o : Outcome) (here : Called Store kept condition s c o t) (sound : condition s ≡ fit) (fresh : Afresh (kept s)) where
+  -- A store from which any list of calls may go on: a call finds nothing amiss with it, everything kept is as it is worked out afresh, and no name is held by
+  -- two scopes. A load leaves such a store, and so does every call.
+  pub record Ready (s : Store) : Type 0 where
+    pub sound : condition s ≡ fit
+    pub fresh : Afresh (kept s)
+    pub once : HeldOnce (kept s .scopes)
+
+  -- it keeps its own book
+  own-book : (s : Store) → Ready s → KeepsBook Store kept condition (asBook (kept s)) s
+  own-book s ready =
+      record { texts = refl; scopes = refl; answers = ready .fresh .answers; references = ready .fresh .references; room = refl; sound = ready .sound }
+
+  -- a call that finds such a store
+  module _ (s t : Store) (c : Call) (o : Outcome) (here : Called Store kept condition s c o t) (ready : Ready s) where
     told-fit : o ≡ keptOutcome fit (kept s) c
-    told-fit = rw sound at (here .told)
+    told-fit = rw (ready .sound) at (here .told)
 
     left-fit : kept t ≡ keptAfter fit (kept s) c
-    left-fit = rw sound at (here .left)
-
-    left-afresh : Afresh (kept t)
-    left-afresh = rw left-fit (stays-afresh (kept s) fresh c)
+    left-fit = rw (ready .sound) at (here .left)
 
     left-scopes : kept t .scopes ≡ kept s .scopes
     left-scopes = rw left-fit (scopes-stay fit (kept s) c)
 
-    told-book : o ≡ bookOutcome (asBook (kept s)) c
-    told-book = told-fit ∙ outcome-afresh (kept s) fresh c
+    left-ready : Ready t
+    left-ready =
+        record {
+          sound = here .stays (ready .sound);
+          fresh = rw left-fit (stays-afresh (kept s) (ready .fresh) c);
+          once = rw left-scopes (ready .once);
+        }
 
     left-book : asBook (kept t) ≡ bookAfter (asBook (kept s)) c
-    left-book = rw left-fit (after-afresh (kept s) fresh c)
+    left-book = rw left-fit (after-afresh (kept s) (ready .fresh) c)
 
-    left-moves : HeldOnce (kept s .scopes) → Moves (kept s) c o (kept t)
-    left-moves once = rw (told-fit, left-fit) (call-moves (kept s) fresh once c)
+    -- THEOREM. It comes to what the book comes to, leaves what the book has then, and moves only what it may.
+    pub turn : Turn Store kept condition (asBook (kept s)) s c o t
+    turn =
+        record {
+          told = told-fit ∙ outcome-afresh (kept s) (ready .fresh) c;
+          keeps = subst (λ (b : Book). KeepsBook Store kept condition b t) left-book (own-book t left-ready);
+          moves = rw (told-fit, left-fit) (call-moves (kept s) (ready .fresh) (ready .once) c);
+        }
 
-  -- what holds after a list of calls from such a store
-  record Ran (s u : Store) (calls : List (Call × Outcome)) (trace : Trace Store kept condition s calls u) : Type 0 where
-    outcomes : map (λ x. x .1) calls ≡ bookOutcomes (asBook (kept s)) (map (λ x. x .0) calls)
-    book : asBook (kept u) ≡ bookAfterAll (asBook (kept s)) (map (λ x. x .0) calls)
-    scopes : kept u .scopes ≡ kept s .scopes
-    fresh : Afresh (kept u)
-    moves : eachMoves Store kept condition s u calls trace
+  -- What holds of a list of calls from such a store, whose book is the one that it keeps.
+  pub record Ran (s u : Store) (calls : List (Call × Outcome)) (trace : Trace Store kept condition s calls u) : Type 0 where
+    -- at every call
+    pub follows : Follows Store kept condition (asBook (kept s)) s u calls trace
+    -- and after the last
+    pub outcomes : map (λ x. x .1) calls ≡ bookOutcomes (asBook (kept s)) (map (λ x. x .0) calls)
+    pub book : asBook (kept u) ≡ bookAfterAll (asBook (kept s)) (map (λ x. x .0) calls)
+    pub scopes : kept u .scopes ≡ kept s .scopes
+    pub ready : Ready u
 
-  ran : (s u : Store) (calls : List (Call × Outcome)) (trace : Trace Store kept condition s calls u)
-      → condition s ≡ fit → Afresh (kept s) → HeldOnce (kept s .scopes) → Ran s u calls trace
-  unfolding bookOutcomes bookAfterAll eachMoves
-  ran s u calls (done s′) sound fresh once = record { outcomes = refl; book = refl; scopes = refl; fresh = fresh; moves = tt }
-  ran s u calls (call s′ t u′ c o rest here more) sound fresh once =
-      go (ran t u′ rest more (here .stays sound) (left-afresh s′ t c o here sound fresh) (rw (left-scopes s′ t c o here sound fresh) once))
+  -- THEOREM. So it is of every list of calls, whoever made the store.
+  pub ran : (s u : Store) (calls : List (Call × Outcome)) (trace : Trace Store kept condition s calls u) → Ready s → Ran s u calls trace
+  unfolding bookOutcomes bookAfterAll Follows
+  ran s u calls (done s′) ready = record { follows = tt; outcomes = refl; book = refl; scopes = refl; ready = ready }
+  ran s u calls (call s′ t u′ c o rest here more) ready = go (ran t u′ rest more (left-ready s′ t c o here ready))
     where
       go : Ran t u′ rest more → Ran s′ u′ ((c, o) ∷ rest) (call s′ t u′ c o rest here more)
       go after =
+          let now = turn s′ t c o here ready in
+          let same = left-book s′ t c o here ready in
           record {
-            outcomes = rw (← left-book s′ t c o here sound fresh, told-book s′ t c o here sound fresh, after .outcomes);
-            book = after .book ∙ ap (λ (b : Book). bookAfterAll b (map (λ x. x .0) rest)) (left-book s′ t c o here sound fresh);
-            scopes = after .scopes ∙ left-scopes s′ t c o here sound fresh;
-            fresh = after .fresh;
-            moves = (left-moves s′ t c o here sound fresh once, after .moves);
+            follows = (now, subst (λ (b : Book). Follows Store kept condition b t u′ rest more) same (after .follows));
+            outcomes = rw (← same, now .told, after .outcomes);
+            book = after .book ∙ ap (λ (b : Book). bookAfterAll b (map (λ x. x .0) rest)) same;
+            scopes = after .scopes ∙ left-scopes s′ t c o here ready;
+            ready = after .ready;
           }
 
 -- ---- demand 3
--- what a load leaves is afresh, and its book is the one that demand 3 names
+-- what is kept of a module is afresh, and its book is the one that demand 3 names
+kept-afresh : (m : Module) → Afresh (keptOf m)
+unfolding keptOf
+kept-afresh m = record { answers = refl; references = refl }
+
+kept-book : (m : Module) → asBook (keptOf m) ≡ bookOf m
+unfolding keptOf bookOf
+kept-book m = refl
+
+kept-scopes : (m : Module) → keptOf m .scopes ≡ scopesOf m
+unfolding keptOf
+kept-scopes m = refl
+
 pub loaded-afresh : (nodes : List Node) → Afresh (loaded nodes)
 unfolding loaded
-loaded-afresh nodes = record { answers = refl; references = refl }
-
-loaded-book : (nodes : List Node) → asBook (loaded nodes) ≡ bookOf nodes
-unfolding loaded bookOf
-loaded-book nodes = refl
-
-loaded-scopes : (nodes : List Node) → loaded nodes .scopes ≡ scopesOf (lowerModule nodes)
-unfolding loaded
-loaded-scopes nodes = refl
+loaded-afresh nodes = kept-afresh (lowerModule nodes)
 
 module _ (Store : Type 0) (kept : Store → Kept) (condition : Store → Condition) where
-  -- THEOREM. What demand 3 says of every list of calls from an accepted load.
-  pub holds-of-calls : (sheet : List ℕ) (nodes : List Node) (s : Store) → LoadedFrom Store kept condition sheet nodes s
-      → (u : Store) (calls : List (Call × Outcome)) (trace : Trace Store kept condition s calls u) → Holds Store kept condition nodes s u calls trace
-  holds-of-calls sheet nodes s load u calls trace =
-      let held : HeldOnce (kept s .scopes) = rw (load .left, loaded-scopes nodes) (lowered-held-once nodes) in
-      let fresh : Afresh (kept s) = rw (load .left) (loaded-afresh nodes) in
-      let r = ran Store kept condition s u calls trace (load .sound) fresh held in
-      let start : asBook (kept s) ≡ bookOf nodes = rw (load .left) (loaded-book nodes) in
+  -- a store that a module was put into is one to go on from
+  pub starts-ready : (m : Module) (s : Store) → Starts Store kept condition m s → Ready Store kept condition s
+  starts-ready m s start =
+      record { sound = start .sound; fresh = rw (start .left) (kept-afresh m); once = rw (start .left, kept-scopes m) (start .once) }
+
+  -- what an accepted load leaves is such a store
+  pub load-starts : (sheet : List ℕ) (nodes : List Node) (s : Store) → LoadedFrom Store kept condition sheet nodes s
+      → Starts Store kept condition (lowerModule nodes) s
+  unfolding loaded
+  load-starts sheet nodes s load = record { left = load .left; sound = load .sound; once = lowered-held-once nodes }
+
+  -- THEOREM. What demand 3 says, of every list of calls from any module whose names are each held by one scope.
+  pub holds-of-calls : (m : Module) (s : Store) → Starts Store kept condition m s
+      → (u : Store) (calls : List (Call × Outcome)) (trace : Trace Store kept condition s calls u) → Holds Store kept condition m s u calls trace
+  holds-of-calls m s start u calls trace =
+      let ready = starts-ready m s start in
+      let r = ran Store kept condition s u calls trace ready in
+      let book : asBook (kept s) ≡ bookOf m = rw (start .left) (kept-book m) in
+      let after : asBook (kept u) ≡ bookAfterAll (bookOf m) (map (λ x. x .0) calls) = rw book at (r .book) in
       record {
-        outcomes = rw start at (r .outcomes);
-        texts = ap (λ (b : Book). b .lowered) (rw start at (r .book));
-        scopes = r .scopes ∙ ap (λ (b : Book). b .scopes) start;
-        answers = r .fresh .answers;
-        references = r .fresh .references;
-        room = ap (λ (b : Book). b .spent) (rw start at (r .book));
-        moves = r .moves;
+        begins = rw (← book) (own-book Store kept condition s ready);
+        follows = rw book at (r .follows);
+        outcomes = rw book at (r .outcomes);
+        ends = rw (← after) (own-book Store kept condition u (r .ready));
+        scopes = r .scopes ∙ ap (λ (k : Kept). k .scopes) (start .left) ∙ kept-scopes m;
       }
 
   -- THEOREM. Demand 3.
   pub demand3 : Demand3 Store kept condition
   unfolding Demand3
-  demand3 = holds-of-calls
+  demand3 sheet nodes s load = holds-of-calls (lowerModule nodes) s (load-starts sheet nodes s load)

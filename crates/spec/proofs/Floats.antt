@@ -1,39 +1,21 @@
 -- What the text of a Float is: that of an accepted sheet's Float with flag 1 says at most 7ff0000000000000 hex. Assumes nothing.
-use mathlib.Core.Path.{_≡_, refl, sym, ap, _∙_}
-use mathlib.Core.Bool.{Bool, true, false}
+use mathlib.Core.Path.{_≡_, refl, ap, _∙_}
+use mathlib.Core.Bool.{true}
 use mathlib.Core.List.{List}
-use mathlib.Core.Option.{Option, none, some}
 use Prim.Native.Nat.{ℕ, zero, suc, _≤_}
-use Prim.Native.String.{String}
 use native.Mathlib.Omega.{arith}
 use lib.ListN.{length, getD}
 use lib.Dec.{eqb, leb}
 use borrow.Author.Tests.{eqb-true, leb-true}
-use Rattle.words.specs.Order.{pick}
-use Rattle.spec.specs.Basics.{Text, NodeId, maybe}
+use Rattle.spec.specs.Basics.{Text, NodeId}
 use Rattle.spec.specs.Kinds.{kinds, kindOf}
-use Rattle.spec.specs.Sheet.{Node, Fault, malformed, wrongText, Got, got, bad, _>>=_, give, line, field, hex, bitsFrom, isFloat, isEmpty, textFits, node, Judged, accepted, refused, readSheet}
+use Rattle.spec.specs.Sheet.{Node, wrongText, Got, got, bad, _>>=_, give, hex, bitsFrom, isFloat, isEmpty, textFits, node, Judged, accepted, refused, readSheet}
 use Rattle.spec.specs.Tree.{nobody, nodeAt, judgeTree, judge}
 use Rattle.spec.specs.Keys.{kind, flag, text}
 use Rattle.spec.proofs.Subtrees.{and-true}
-use Rattle.spec.proofs.SheetRoom.{read, judged-same}
+use Rattle.spec.proofs.Lines.{read, field-line}
+use Rattle.spec.proofs.SheetRoom.{judged-same}
 use Rattle.spec.proofs.Reading.{Reads, none-left, one-more, accepted-sheet}
-
--- what a line gave has passed its test
-field-tested : {A : Type 0} (key : String) (parse : Text → Option A) (why : Fault) (test : A → Bool) (s : List ℕ) (at : ℕ) (a : A) (to : ℕ)
-    → field key parse why test s at ≡ got a to → test a ≡ true
-unfolding field
-field-tested {A} key parse why test s at a to e =
-    let z = read _ s (line key s at) a to e in
-    parsed (parse (z .value)) (z .place) (z .rest)
-  where
-    tested : (b : A) (place : ℕ) (t : Bool) → test b ≡ t → _≡_ {A = Got A} (pick t (got b place) (bad why at)) (got a to) → test a ≡ true
-    tested b place true h e = let same : b ≡ a = cc in ap test (sym same) ∙ h
-    tested b place false h e = let z : _≡_ {A = ℕ} 0 1 = cc in absurd (omega arith)
-
-    parsed : (r : Option A) (place : ℕ) → _≡_ {A = Got A} (maybe r (bad malformed at) (λ b. pick (test b) (got b place) (bad why at))) (got a to) → test a ≡ true
-    parsed none place e = let z : _≡_ {A = ℕ} 0 1 = cc in absurd (omega arith)
-    parsed (some b) place e = tested b place (test b) refl e
 
 -- the text of a node fits its kind and its flag
 abbrev Fits : Node → Type 0
@@ -49,7 +31,7 @@ node-fits nodes i s at n to e =
     let c = read _ s _ n to (g .rest) in
     let x = read _ s _ n to (c .rest) in
     let same = ap nodeRead (x .rest) in
-    let fits = field-tested "text=" hex wrongText (textFits (kindOf (k .value) .text) (g .value)) s (c .place) (x .value) (x .place) (x .first) in
+    let fits = field-line "text=" hex wrongText (textFits (kindOf (k .value) .text) (g .value)) s (c .place) (x .value) (x .place) (x .first) .passed in
     rw (← same) fits
   where
     nodeRead : Got Node → Node

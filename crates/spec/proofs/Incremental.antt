@@ -11,7 +11,7 @@ use lib.ListN.{length, getD, List·getD-eq-default}
 use borrow.Author.Tests.{eqb-true, eqb-false, ltb-true, ltb-false, leb-false}
 use Rattle.words.specs.Equality.{equalb}
 use Rattle.words.proofs.EqualityLaws.{equalb-refl, equalb-true}
-use Rattle.spec.specs.Basics.{Text, ExprId, NameId}
+use Rattle.spec.specs.Basics.{Text, ExprId, NameId, if_then_else_}
 use Rattle.spec.specs.Module.{missing, Made, Module}
 use Rattle.spec.specs.Scopes.{Scopes, madeAt, exprAt}
 use Rattle.spec.specs.Answer.{Answer, referenceText, answerOf, answer, referencesFrom, references}
@@ -85,6 +85,16 @@ module _ (m : Module) (f g : ExprId → Option Answer) (r q : NameId → List Ex
   outcome-same : (store : Condition) (c : Call) → outcome m f r spent store c ≡ outcome m g q spent store c
   unfolding outcome
   outcome-same store c = rw (answerCall-same c)
+
+-- ---- a call sets one place at most
+-- THEOREM. It costs nothing where the text is the old one, and else the text's length.
+pub spent-once : (m : Module) (spent : ℕ) (c : Call)
+    → spentBy m spent c ≡ (if equalb (oldText m c) (newText c) then spent else spent + length (newText c))
+unfolding spentBy oldText newText equalb
+spent-once m spent (askReference n buffer reply) = refl
+spent-once m spent (askName n buffer reply) = refl
+spent-once m spent (changeReference n t reply) = refl
+spent-once m spent (changeName n t reply) = refl
 
 -- ---- what is known of a call that is accepted
 check-passed : (b : Bool) (number place : ℕ) (rest : Outcome) → isAccepted (check b number place rest) ≡ true → (b ≡ false) × (isAccepted rest ≡ true)
@@ -201,12 +211,12 @@ module _ (k : Kept) (fresh : Afresh k) where
 
   -- THEOREM. After every call the module, the scopes and the room spent are the book's.
   pub after-afresh : (c : Call) → asBook (keptAfter fit k c) ≡ bookAfter (asBook k) c
-  unfolding keptAfter keptWith keptOutcome bookAfter bookWith changedTo spentBy
+  unfolding keptAfter keptWith keptOutcome bookAfter bookWith changedTo
   after-afresh c = rw (← outcome-afresh c) (go (isAccepted (keptOutcome fit k c)) (equalb (oldText (k .lowered) c) (newText c)) refl refl)
     where
       go : (a b : Bool) → isAccepted (keptOutcome fit k c) ≡ a → equalb (oldText (k .lowered) c) (newText c) ≡ b
           → asBook (keptWith k c (a && not b)) ≡ bookWith (asBook k) c a
       go true true p q =
-          rw (withText-equal (k .lowered) (keptAnswer k) (keptReferences k) (k .spent) fit c p (equalb-true _ _ q), q)
+          rw (withText-equal (k .lowered) (keptAnswer k) (keptReferences k) (k .spent) fit c p (equalb-true _ _ q), spent-once (k .lowered) (k .spent) c, q)
       go true false p q = refl
       go false b p q = refl

@@ -8,7 +8,7 @@ use Rattle.spec.specs.Sheet.{Node}
 use Rattle.spec.specs.Module.{Bindings}
 use Rattle.spec.specs.Lower.{lowerModule}
 use Rattle.spec.specs.Scopes.{bound, form, exprAt}
-use Rattle.spec.specs.Kept.{Kept, loaded}
+use Rattle.spec.specs.Kept.{Kept, keptOf, loaded}
 use Rattle.spec.proofs.Sums.{All, all-map}
 use Rattle.spec.proofs.Numbers.{Right, Row}
 use Rattle.spec.proofs.Sound.{Sound, lowered-sound}
@@ -23,5 +23,5 @@ inherited-right k sound e bs body p =
 -- THEOREM. In every lowered module.
 pub lowered-inherits : (nodes : List Node) (e : ExprId) (bs : Bindings) (body : Option ExprId) → form (exprAt (lowerModule nodes) e) ≡ bound bs body
     → All (λ b. Right e (lowerModule nodes .exprs) (bs .inheritFroms) (b .1)) (bs .statics)
-unfolding loaded
+unfolding loaded keptOf
 lowered-inherits nodes = inherited-right (loaded nodes) (lowered-sound nodes)

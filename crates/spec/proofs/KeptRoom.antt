@@ -16,7 +16,7 @@ use Rattle.spec.specs.Lower.{lowerModule}
 use Rattle.spec.specs.Scopes.{exprAt, madeAt}
 use Rattle.spec.specs.Answer.{referenceText}
 use Rattle.spec.specs.Calls.{Condition, fit, Call, askReference, askName, changeReference, changeName, isAccepted, oldText, newText, withText, setReference, setName}
-use Rattle.spec.specs.Kept.{Kept, loaded, keptAnswer, keptReferences, keptOutcome, changedTo, keptWith, keptAfter}
+use Rattle.spec.specs.Kept.{Kept, keptOf, loaded, keptAnswer, keptReferences, keptOutcome, changedTo, keptWith, keptAfter}
 use Rattle.spec.proofs.Nesting.{sum-set}
 use Rattle.spec.proofs.Locality.{is-reference}
 use Rattle.spec.proofs.Incremental.{Afresh, reference-there, reference-known, stays-afresh}
@@ -72,7 +72,7 @@ node-room s nodes h =
 
 -- THEOREM. And so has what they are lowered to.
 pub loaded-room : (s : List ℕ) (nodes : List Node) → judge s ≡ accepted nodes → KeptRoom (length nodes) (loaded nodes)
-unfolding loaded
+unfolding loaded keptOf
 loaded-room s nodes h =
     let r = sheet-room s nodes h in
     let i = item-room nodes (walk-accepts s nodes h) in
@@ -91,7 +91,7 @@ loaded-room s nodes h =
 -- THEOREM. In numbers: there is room for 16,384 expressions and for 32,768 list items.
 pub loaded-limits : (s : List ℕ) (nodes : List Node) → judge s ≡ accepted nodes
     → (length (lowerModule nodes .exprs) ≤ 16384) × (listItems (lowerModule nodes .exprs) ≤ 32768) × (kidPlaces nodes ≤ 16384)
-unfolding loaded
+unfolding loaded keptOf
 loaded-limits s nodes h =
     let n = node-room s nodes h in
     let k = loaded-room s nodes h in
@@ -111,7 +111,7 @@ same-counts : (m : Module) → SameCounts m m
 same-counts m = record { exprs = refl; names = refl; diagnostics = refl; lost = refl; items = refl; referring = refl }
 
 text-counts : (c : Condition) (k : Kept) (call : Call) → isAccepted (keptOutcome c k call) ≡ true → SameCounts (k .lowered) (withText (k .lowered) call)
-unfolding withText setReference setName keptOutcome madeAt exprAt referenceText
+unfolding withText newText setReference setName keptOutcome madeAt exprAt referenceText
 text-counts c k (askReference n buffer reply) h = same-counts (k .lowered)
 text-counts c k (askName n buffer reply) h = same-counts (k .lowered)
 text-counts c k (changeReference n t reply) h =

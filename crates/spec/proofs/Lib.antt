@@ -28,6 +28,7 @@ pub mod RoomWeights
 pub mod Weighing
 pub mod Gaining
 pub mod ScopeRoom
+pub mod Lines
 pub mod SheetRoom
 pub mod Numbers
 pub mod Leaves
@@ -42,6 +43,8 @@ pub mod ItemRoom
 pub mod TreeRoom
 pub mod TextRoom
 pub mod Floats
+pub mod Flags
+pub mod Operators
 pub mod NameRoom
 pub mod ReferenceRoom
 pub mod KeptRoom

@@ -17,8 +17,8 @@ use Rattle.spec.specs.State.{SetId, MergingSet, MergingEntry, static, so
 use Rattle.spec.specs.Scopes.{oneOrNone, form, scopesOf}
 use Rattle.spec.specs.Merge.{setOf, find, entryAt, nestedIn, nestedAt, nameKey, mergeValueAt, mergeStaticValue, newNested, nestedOr, nestedStaticAt, getOrCreateNestedStatic, finishExpr, finish, lowerOpt, pushDynamic, mergeLowered, mergeInto, mergeKeyed, mergeAttrAs, mergeAttrValue, mergeStepAs, mergeNestedAttrValue, mergePath, mergeAttrpathVal, inheritValue, inheritAs, inheritAttr, inheritSource, mergeInherit, mergeEntry, mergeEntries, desugar}
 use Rattle.spec.specs.Lower.{lowerExpr, mergeBindings, moduleOf, lowerModule}
+use Rattle.spec.specs.Demand.{HeldOnce}
 use Rattle.spec.proofs.ListLaws.{length-snoc}
-use Rattle.spec.proofs.Locality.{HeldOnce}
 use Rattle.spec.proofs.Sums.{sumBy, All, same, same-le, same-not, compared, sum-zero, sum-append, all-map, total, total-more, total-within}
 use Rattle.spec.proofs.Once.{entered, walked, timesEntered, held-once}
 use Rattle.spec.proofs.Weights.{upTo, Between, NamesSets, Known, Scale, Fits, Makes, Lowers, lowers-next, lowers-give, lowers-asks, lowers-alloc, lowers-aside, lowers-missing, lowers-name}

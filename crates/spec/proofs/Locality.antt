@@ -19,7 +19,7 @@ use Rattle.spec.specs.Scopes.{Scope, Scopes, madeAt, exprAt, nameAt, isI
 use Rattle.spec.specs.Answer.{scopeAt, textOfName, referenceText, scopeOfExpr, answerOf, answer}
 use Rattle.spec.specs.Calls.{setName, setReference}
 use Rattle.spec.specs.Kept.{bears}
-use Rattle.spec.specs.Demand.{within}
+use Rattle.spec.specs.Demand.{HeldOnce, within}
 use Rattle.spec.proofs.BoolLaws.{differ, neither, decided}
 use Rattle.spec.proofs.Chain.{InReach, answerAt-same}
 
@@ -138,12 +138,6 @@ module _ (m : Module) (x : NameId) (t : Text) where
     unreached-stays h = answer-stays λ u p y held. rw (text-other y λ q. h (rw q at held))
 
 -- ---- the scope that holds a name
--- each name is held by one scope
-abbrev pub HeldOnce : Scopes → Type 0
-HeldOnce w =
-    (x : NameId) (s s′ : ScopeId) → s < length (w .scopes) → s′ < length (w .scopes)
-    → holds x (scopeAt (w .scopes) s .kind) ≡ true → holds x (scopeAt (w .scopes) s′ .kind) ≡ true → s ≡ s′
-
 -- there is a scope of every number that holds something
 holds-within : (x : NameId) (ss : List Scope) (s : ScopeId) → holds x (scopeAt ss s .kind) ≡ true → s < length ss
 unfolding scopeAt holds isIn

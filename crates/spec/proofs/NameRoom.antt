@@ -8,7 +8,7 @@ use Rattle.spec.specs.Basics.{NameId}
 use Rattle.spec.specs.Sheet.{Node}
 use Rattle.spec.specs.Lower.{lowerModule}
 use Rattle.spec.specs.Scopes.{ScopeKind, definitions, withExpr, Scope, scopesOf}
-use Rattle.spec.specs.Kept.{loaded}
+use Rattle.spec.specs.Kept.{keptOf, loaded}
 use Rattle.spec.proofs.Sums.{sumBy, All, same, same-is, compared}
 use Rattle.spec.proofs.Weights.{upTo}
 use Rattle.spec.proofs.Once.{heldBy, held, held-few}
@@ -60,7 +60,7 @@ scopes-counted n e (s ∷ ss) a =
 
 -- THEOREM. The scopes of a lowered module hold together at most as many names as there are.
 pub entered-room : (nodes : List Node) → namesEntered (scopesOf (lowerModule nodes) .scopes) ≤ length (lowerModule nodes .names)
-unfolding loaded
+unfolding loaded keptOf
 entered-room nodes =
     let m = lowerModule nodes in
     let ss = scopesOf m .scopes in

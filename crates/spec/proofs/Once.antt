@@ -14,8 +14,8 @@ use Rattle.spec.specs.Steps.{_>>=_, give, eachOf}
 use Rattle.spec.specs.Module.{Bindings, Module}
 use Rattle.spec.specs.Scopes.{ScopeKind, definitions, withExpr, Scope, Scopes, Walk, placeExpr, openScope, openFor, oneOrNone, fieldNames, fieldDefaults, patFields, inherited, plainValues, keysAndValues, Form, function, withBody, bound, through, form, exprAt, defined, traverseBindings, traverseLambda, traverseWith, traverseAs, traverseTo, traverseExpr, scopesOf, isIn, holds}
 use Rattle.spec.specs.Answer.{scopeAt}
+use Rattle.spec.specs.Demand.{HeldOnce}
 use Rattle.spec.proofs.BoolLaws.{differ}
-use Rattle.spec.proofs.Locality.{HeldOnce}
 use Rattle.spec.proofs.Sums.{sumBy, same, sum-append, total}
 
 -- ---- what an expression enters and what is walked from it, in the walk's order

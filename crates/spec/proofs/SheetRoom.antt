@@ -1,54 +1,20 @@
 -- Room for a whole sheet: one that is accepted has at most 4096 nodes, and what is lowered from it fits. Assumes nothing.
 use mathlib.Core.Path.{_≡_, refl, ap, _∙_}
-use mathlib.Core.Bool.{Bool, true, false, _&&_}
+use mathlib.Core.Bool.{Bool, true, false}
 use mathlib.Core.List.{List, [], _∷_}
-use mathlib.Core.Option.{Option, none, some}
 use Prim.Native.Nat.{ℕ, zero, suc, _+_, _≤_}
-use Prim.Native.String.{String}
 use native.Mathlib.Omega.{arith}
 use lib.ListN.{length}
 use lib.Dec.{eqb, leb}
-use borrow.Author.Tests.{leb-true}
 use Rattle.words.specs.Order.{pick}
-use Rattle.spec.specs.Basics.{maybe}
-use Rattle.spec.specs.Sheet.{Node, Fault, malformed, wrongCount, wrongKind, Got, got, bad, Reader, next, _>>=_, give, line, field, decimal, number, node, nodesFrom, nodeList, Judged, accepted, refused, whole, readSheet}
+use Rattle.spec.specs.Sheet.{Node, wrongCount, wrongKind, Got, got, bad, _>>=_, give, number, node, nodesFrom, nodeList, Judged, accepted, refused, whole, readSheet}
 use Rattle.spec.specs.Tree.{nodeAt, Walked, met, stopped, walkTo, wholeTree, judgeTree, judge}
 use Rattle.spec.specs.Keys.{kind}
 use Rattle.spec.specs.Lower.{lowerModule}
 use Rattle.spec.specs.Scopes.{scopesOf}
-use Rattle.spec.proofs.Subtrees.{and-true}
+use Rattle.spec.proofs.Lines.{read, number-within}
 use Rattle.spec.proofs.Room.{Room, room}
 use Rattle.spec.proofs.ScopeRoom.{scope-room}
-
--- ---- what a reader gave
-pub record Read {A B : Type 0} (f : A → Reader B) (s : List ℕ) (r : Got A) (b : B) (at : ℕ) : Type 0 where
-  pub value : A
-  pub place : ℕ
-  pub first : r ≡ got value place
-  pub rest : f value s place ≡ got b at
-
-pub read : {A B : Type 0} (f : A → Reader B) (s : List ℕ) (r : Got A) (b : B) (at : ℕ) → next f s r ≡ got b at → Read f s r b at
-unfolding next
-read f s (got a place) b at e = record { value = a; place = place; first = refl; rest = e }
-read f s (bad w place) b at e = let z : _≡_ {A = ℕ} 0 1 = cc in absurd (omega arith)
-
--- a number is within its limits
-number-within : (key : String) (why : Fault) (lo hi : ℕ) (s : List ℕ) (at v to : ℕ) → number key why lo hi s at ≡ got v to → (lo ≤ v) × (v ≤ hi)
-unfolding number field
-number-within key why lo hi s at v to e =
-    let z = read _ s (line key s at) v to e in
-    parsed (decimal (z .value)) (z .place) (z .rest)
-  where
-    tested : (n place : ℕ) (t : Bool) → leb lo n && leb n hi ≡ t → _≡_ {A = Got ℕ} (pick t (got n place) (bad why at)) (got v to) → (lo ≤ v) × (v ≤ hi)
-    tested n place true h e =
-        let i : n ≡ v = cc in
-        let z = and-true (leb lo n) (leb n hi) h in
-        (omega (arith, leb-true lo n (z .0)), omega (arith, leb-true n hi (z .1)))
-    tested n place false h e = let z : _≡_ {A = ℕ} 0 1 = cc in absurd (omega arith)
-
-    parsed : (r : Option ℕ) (place : ℕ) → _≡_ {A = Got ℕ} (maybe r (bad malformed at) (λ a. pick (leb lo a && leb a hi) (got a place) (bad why at))) (got v to) → (lo ≤ v) × (v ≤ hi)
-    parsed none place e = let z : _≡_ {A = ℕ} 0 1 = cc in absurd (omega arith)
-    parsed (some n) place e = tested n place (leb lo n && leb n hi) refl e
 
 -- the first node is a Root
 root-kind : (nodes : ℕ) (s : List ℕ) (at : ℕ) (n : Node) (to : ℕ) → node nodes 0 s at ≡ got n to → n .kind ≡ 21

@@ -4,7 +4,7 @@ use mathlib.Core.Path.{_≡_, refl, sym, ap, subst, _∙_}
 use mathlib.Core.Bool.{Bool, true, false, _||_, _&&_, not}
 use mathlib.Core.List.{List, [], _∷_, _++_}
 use mathlib.Core.Option.{Option, none, some}
-use Prim.Native.Nat.{ℕ, zero, suc, _+_, _<_}
+use Prim.Native.Nat.{ℕ, suc, _+_, _<_}
 use native.Mathlib.Omega.{arith}
 use lib.Dec.{ltb}
 use lib.ListN.{length, getD, set, length-set, List·getD-eq-default}
@@ -20,11 +20,11 @@ use Rattle.spec.specs.Lower.{lowerModule}
 use Rattle.spec.specs.Scopes.{ScopeKind, definitions, withExpr, Scope, Scopes, oneOrNone, ifInherited, inherited, ifPlain, plainValues, keysAndValues, Form, function, withBody, bound, through, form, exprAt, madeAt, scopesOf}
 use Rattle.spec.specs.Answer.{Answer, unresolved, definition, builtin, withs, builtins, indexFrom, scopeAt, chain, lastWith, definedIn, innermost, ifWith, withsOf, someWiths, afterBuiltins, afterDefinitions, answerIn, answerAt, answerOf, answer, means, referenceText, referencesFrom, references}
 use Rattle.spec.specs.Calls.{Condition, Call, askReference, askName, changeReference, changeName, isAccepted, oldText, newText, withText, setReference, setName}
-use Rattle.spec.specs.Kept.{Kept, tabulate, answersAfresh, referencesAfresh, loaded, keptAnswer, keptReferences, keptOutcome, resolvedAgain, answeredWith, changedTo, keptWith, keptAfter, bears}
+use Rattle.spec.specs.Kept.{Kept, tabulate, answersAfresh, referencesAfresh, keptOf, loaded, keptAnswer, keptReferences, keptOutcome, resolvedAgain, answeredWith, changedTo, keptWith, keptAfter, bears}
 use Rattle.spec.proofs.ListLaws.{length-tabulate}
 use Rattle.spec.proofs.Sums.{All, all-append, all-left, all-right, all-map, compared, all-getD}
 use Rattle.spec.proofs.Once.{walkedBy}
-use Rattle.spec.proofs.Ordered.{AllBelow, lowered-ordered}
+use Rattle.spec.proofs.Ordered.{AllBelow, Ordered, lowered-ordered}
 use Rattle.spec.proofs.Walk.{walked-below}
 use Rattle.spec.proofs.Locality.{is-reference}
 use Rattle.spec.proofs.Incremental.{reference-there, reference-known}
@@ -197,18 +197,17 @@ references-below m w x i (d ∷ ds) =
     go true h = (omega arith, h)
     go false h = h
 
--- ---- a load
--- THEOREM. What lowering any nodes leaves is sound.
-pub lowered-sound : (nodes : List Node) → Sound (loaded nodes)
-unfolding loaded answersAfresh referencesAfresh references exprAt madeAt
-lowered-sound nodes =
-    let m = lowerModule nodes in
-    let order = lowered-ordered nodes in
-    let rows = every-row (length (m .names)) (m .exprs) (lowered-rows nodes) in
-    let range = scopes-in-range m (order .0) (λ d. rows d .names) (order .1) in
+-- ---- a module in order
+-- THEOREM. What is kept of a module is sound, if children lie below their parents and every row says what it may.
+pub kept-sound : (m : Module) → Ordered (m .exprs) → m .entry < length (m .exprs)
+    → ((e : ExprId) → e < length (m .exprs) → Row (length (m .names)) e (m .exprs) (form (at (m .exprs) e))) → Sound (keptOf m)
+unfolding keptOf answersAfresh referencesAfresh references exprAt madeAt
+kept-sound m order entered said =
+    let rows = every-row (length (m .names)) (m .exprs) said in
+    let range = scopes-in-range m order (λ d. rows d .names) entered in
     record {
-      entry = order .1;
-      children = λ e. numbers-below e (length (m .names)) (m .exprs) (form (at (m .exprs) e)) (walked-below m (order .0) e) (rows e);
+      entry = entered;
+      children = λ e. numbers-below e (length (m .names)) (m .exprs) (form (at (m .exprs) e)) (walked-below m order e) (rows e);
       rows = rows;
       scopes = range;
       answered = length-tabulate _ 0 (m .exprs);
@@ -216,6 +215,12 @@ lowered-sound nodes =
       referred = length-tabulate _ 0 (m .names);
       references = all-tabulate _ _ (λ x. all-map _ _ (λ c h. omega arith) (referencesFrom m (scopesOf m) x 0 (m .exprs)) (references-below m (scopesOf m) x 0 (m .exprs))) 0 (m .names);
     }
+
+-- ---- a load
+-- THEOREM. What lowering any nodes leaves is sound.
+pub lowered-sound : (nodes : List Node) → Sound (loaded nodes)
+unfolding loaded
+lowered-sound nodes = let order = lowered-ordered nodes in kept-sound (lowerModule nodes) (order .0) (order .1) (lowered-rows nodes)
 
 -- THEOREM. So it is after an accepted load.
 pub loaded-sound : (s : List ℕ) (nodes : List Node) → judge s ≡ accepted nodes → Sound (loaded nodes)
@@ -312,7 +317,7 @@ changed-sound k sound m old new spent same =
 
 -- the text that an accepted call sets
 text-same : (c : Condition) (k : Kept) → Sound k → (call : Call) → isAccepted (keptOutcome c k call) ≡ true → SameLists k (withText (k .lowered) call)
-unfolding withText setReference setName exprAt madeAt keptOutcome
+unfolding withText newText setReference setName exprAt madeAt keptOutcome
 text-same c k sound (askReference n buffer reply) h = record { exprs = refl; names = refl; entry = refl; children = sound .children; rows = sound .rows }
 text-same c k sound (askName n buffer reply) h = record { exprs = refl; names = refl; entry = refl; children = sound .children; rows = sound .rows }
 text-same c k sound (changeReference n t reply) h =

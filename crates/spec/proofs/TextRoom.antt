@@ -7,60 +7,21 @@ use mathlib.Core.Option.{Option, none, some, Option·map}
 use Prim.Native.Nat.{ℕ, _+_, _*_, _≤_}
 use Prim.Native.String.{String}
 use native.Mathlib.Omega.{arith}
-use lib.ListN.{length, drop}
+use lib.ListN.{length}
 use lib.Dec.{eqb, leb}
 use borrow.Author.Tests.{leb-true}
 use Rattle.words.specs.Order.{pick}
 use Rattle.spec.specs.Basics.{Text, bytes, maybe}
-use Rattle.spec.specs.Sheet.{Node, Fault, malformed, wrongKind, wrongRange, wrongFlag, wrongKid, wrongText, Got, got, bad, next, _>>=_, give, after, upToEnd, line, field, decimal, number, kidList, hexDigit, hex, node, Judged, accepted, refused, whole, nodeList, readSheet}
+use Rattle.spec.specs.Sheet.{Node, wrongKind, wrongRange, wrongFlag, wrongKid, wrongText, Got, got, bad, _>>=_, give, decimal, number, kidList, hexDigit, hex, node, Judged, accepted, refused, whole, nodeList, readSheet}
 use Rattle.spec.specs.Tree.{judgeTree, judge}
 use Rattle.spec.proofs.Sums.{sumBy}
-use Rattle.spec.proofs.SheetRoom.{read, judged-same}
+use Rattle.spec.proofs.Lines.{read, Line, field-line}
+use Rattle.spec.proofs.SheetRoom.{judged-same}
 use Rattle.spec.proofs.Reading.{Reads, none-left, one-more, accepted-sheet}
 
 -- the bytes that the texts of the nodes take, four being counted for each beside its own
 abbrev pub textBytes : List Node → ℕ
 textBytes ns = sumBy (λ n. length (n .text) + 4) ns
-
--- ---- a line
-line-place : (key : String) (s : List ℕ) (at : ℕ) (v : Text) (to : ℕ) → line key s at ≡ got v to → to ≡ at + length (bytes key) + length v + 1
-unfolding line
-line-place key s at v to e = after-key (after (bytes key) (drop at s)) e
-  where
-    value : (r : Option Text) → _≡_ {A = Got Text} (maybe r (bad malformed at) (λ v. got v (at + length (bytes key) + length v + 1))) (got v to)
-        → to ≡ at + length (bytes key) + length v + 1
-    value none e = let z : _≡_ {A = ℕ} 0 1 = cc in absurd (omega arith)
-    value (some u) e = let same : u ≡ v = cc in let place : at + length (bytes key) + length u + 1 ≡ to = cc in omega (arith, ap length same)
-
-    after-key : (r : Option (List ℕ))
-        → _≡_ {A = Got Text} (maybe r (bad malformed at) (λ rest. maybe (upToEnd rest) (bad malformed at) (λ v. got v (at + length (bytes key) + length v + 1)))) (got v to)
-        → to ≡ at + length (bytes key) + length v + 1
-    after-key none e = let z : _≡_ {A = ℕ} 0 1 = cc in absurd (omega arith)
-    after-key (some rest) e = value (upToEnd rest) e
-
--- what stands in a line that was read, and where the next one is
-record Line {A : Type 0} (key : String) (parse : Text → Option A) (at : ℕ) (a : A) (to : ℕ) : Type 0 where
-  value : Text
-  parsed : parse value ≡ some a
-  place : to ≡ at + length (bytes key) + length value + 1
-
-field-line : {A : Type 0} (key : String) (parse : Text → Option A) (why : Fault) (test : A → Bool) (s : List ℕ) (at : ℕ) (a : A) (to : ℕ)
-    → field key parse why test s at ≡ got a to → Line key parse at a to
-unfolding field
-field-line {A} key parse why test s at a to e =
-    let z = read _ s (line key s at) a to e in
-    let l = line-place key s at (z .value) (z .place) (z .first) in
-    go (z .value) (z .place) l (parse (z .value)) refl (z .rest)
-  where
-    tested : (v : Text) (place : ℕ) → place ≡ at + length (bytes key) + length v + 1 → (b : A) → parse v ≡ some b → (t : Bool)
-        → _≡_ {A = Got A} (pick t (got b place) (bad why at)) (got a to) → Line key parse at a to
-    tested v place l b p true e = let same : b ≡ a = cc in let there : place ≡ to = cc in record { value = v; parsed = p ∙ ap some same; place = sym there ∙ l }
-    tested v place l b p false e = let z : _≡_ {A = ℕ} 0 1 = cc in absurd (omega arith)
-
-    go : (v : Text) (place : ℕ) → place ≡ at + length (bytes key) + length v + 1 → (r : Option A) → parse v ≡ r
-        → _≡_ {A = Got A} (maybe r (bad malformed at) (λ a. pick (test a) (got a place) (bad why at))) (got a to) → Line key parse at a to
-    go v place l none p e = let z : _≡_ {A = ℕ} 0 1 = cc in absurd (omega arith)
-    go v place l (some b) p e = tested v place l b p (test b) e
 
 -- ---- hex
 hex-length : (v t : Text) → hex v ≡ some t → length v ≡ 2 * length t
@@ -85,7 +46,7 @@ hex-length (a ∷ b ∷ v) t e = high (hexDigit a) e (hex-length v)
     high (some x) e h = low x (hexDigit b) e h
 
 -- ---- a node
-line-long : {A : Type 0} {key : String} {parse : Text → Option A} {at : ℕ} {a : A} {to : ℕ} → Line key parse at a to → at + length (bytes key) + 1 ≤ to
+line-long : {A : Type 0} {key : String} {parse : Text → Option A} {test : A → Bool} {at : ℕ} {a : A} {to : ℕ} → Line key parse test at a to → at + length (bytes key) + 1 ≤ to
 line-long l = omega (arith, l .place)
 
 six-lines : (at a b c d e to v l : ℕ) → at + 5 + 1 ≤ a → a + 5 + 1 ≤ b → b + 3 + 1 ≤ c → c + 5 + 1 ≤ d → d + 5 + 1 ≤ e → to ≡ e + 5 + v + 1 → v ≡ 2 * l

@@ -4,8 +4,6 @@ use mathlib.Core.Bool.{Bool, true, false}
 use mathlib.Core.List.{List, [], _∷_}
 use Prim.Native.Nat.{ℕ}
 use Rattle.spec.specs.Module.{Module}
-use Rattle.spec.specs.Sheet.{Node}
-use Rattle.spec.specs.Lower.{lowerModule}
 use Rattle.spec.specs.Scopes.{Scopes, scopesOf}
 use Rattle.spec.specs.Answer.{answer, references}
 use Rattle.spec.specs.Calls.{fit, Call, Outcome, isAccepted, withText, spentBy, outcome}
@@ -15,9 +13,9 @@ pub record Book : Type 0 where
   pub scopes : Scopes
   pub spent : ℕ
 
--- "It starts with the module and texts that these rules make of the loaded sheet, no room spent."
-unfoldable pub bookOf : List Node → Book
-bookOf nodes = let m = lowerModule nodes in record { lowered = m; scopes = scopesOf m; spent = 0 }
+-- "It starts with the module and texts that these rules make of the loaded sheet, no room spent": of a loaded sheet's nodes, it is that of `lowerModule nodes`.
+unfoldable pub bookOf : Module → Book
+bookOf m = record { lowered = m; scopes = scopesOf m; spent = 0 }
 
 -- "The checks, put to it, refuse or accept; a short store, 22 and 23 never come up." The answers are those worked out afresh.
 unfoldable pub bookOutcome : Book → Call → Outcome

@@ -1,6 +1,6 @@
 -- "Refused because of the state", and 8: asking about a Reference or a name, changing the text of either, and what each call comes to.
 use mathlib.Core.Bool.{Bool, true, false, _||_, _&&_, not}
-use mathlib.Core.List.{List, []}
+use mathlib.Core.List.{List, [], _∷_}
 use mathlib.Core.Option.{Option, none, some}
 use Prim.Native.Nat.{ℕ, _+_, _*_}
 use lib.ListN.{length, set}
@@ -74,6 +74,41 @@ setReference e t m =
       lost = m .lost;
     }
 
+-- What has a text that may change. A change is a text and the places that it sets to it; each of the two changes here sets one.
+pub data Place : Type 0 where
+  atName : NameId → Place
+  atReference : ExprId → Place
+
+unfoldable pub orEmpty : Option Text → Text
+orEmpty none = []
+orEmpty (some t) = t
+
+-- what a place reads
+abbrev pub textAt : Module → Place → Text
+textAt m (atName x) = nameAt m x .text
+textAt m (atReference e) = orEmpty (referenceText (exprAt m e))
+
+-- one place set to a text, or one after another
+abbrev pub setPlace : Text → Place → Module → Module
+setPlace t (atName x) m = setName x t m
+setPlace t (atReference e) m = setReference e t m
+
+abbrev pub setPlaces : Text → List Place → Module → Module
+setPlaces t [] m = m
+setPlaces t (p ∷ ps) m = setPlaces t ps (setPlace t p m)
+
+-- the change room (document 01's term) that is then spent: each place whose text was another costs the length of the new one
+abbrev pub spentAt : Module → Text → ℕ → List Place → ℕ
+spentAt m t spent [] = spent
+spentAt m t spent (p ∷ ps) = spentAt m t (if equalb (textAt m p) t then spent else spent + length t) ps
+
+-- ---- what a call sets
+abbrev pub placesOf : Call → List Place
+placesOf (askReference n buffer reply) = []
+placesOf (askName n buffer reply) = []
+placesOf (changeReference n t reply) = atReference n ∷ []
+placesOf (changeName n t reply) = atName n ∷ []
+
 -- the text that a change sets, and what it was
 unfoldable pub newText : Call → Text
 newText (askReference n buffer reply) = []
@@ -81,25 +116,18 @@ newText (askName n buffer reply) = []
 newText (changeReference n t reply) = t
 newText (changeName n t reply) = t
 
-unfoldable pub orEmpty : Option Text → Text
-orEmpty none = []
-orEmpty (some t) = t
-
 unfoldable pub oldText : Module → Call → Text
 oldText m (askReference n buffer reply) = []
 oldText m (askName n buffer reply) = []
-oldText m (changeReference n t reply) = orEmpty (referenceText (exprAt m n))
-oldText m (changeName n t reply) = nameAt m n .text
+oldText m (changeReference n t reply) = textAt m (atReference n)
+oldText m (changeName n t reply) = textAt m (atName n)
 
 unfoldable pub withText : Module → Call → Module
-withText m (askReference n buffer reply) = m
-withText m (askName n buffer reply) = m
-withText m (changeReference n t reply) = setReference n t m
-withText m (changeName n t reply) = setName n t m
+withText m c = setPlaces (newText c) (placesOf c) m
 
--- the change room (document 01's term): "lengths of all accepted changes since the load whose text differed from the old"
+-- "lengths of all accepted changes since the load whose text differed from the old"
 unfoldable pub spentBy : Module → ℕ → Call → ℕ
-spentBy m spent c = if equalb (oldText m c) (newText c) then spent else spent + length (newText c)
+spentBy m spent c = spentAt m (newText c) spent (placesOf c)
 
 -- ---- the checks: "Other calls check 21 to 25, then 8, then 26 or 27."
 unfoldable pub check : Bool → ℕ → ℕ → Outcome → Outcome

@@ -4,17 +4,26 @@ use mathlib.Core.Logic.{_≢_}
 use mathlib.Core.Bool.{Bool, true, false, _||_}
 use mathlib.Core.List.{List, [], _∷_, map}
 use mathlib.Core.Option.{Option, none, some}
-use Prim.Native.Nat.{ℕ}
-use Rattle.spec.specs.Basics.{ExprId, ScopeId}
+use Prim.Native.Nat.{ℕ, _<_}
+use lib.ListN.{length}
+use Rattle.spec.specs.Basics.{ExprId, NameId, ScopeId}
 use Rattle.spec.specs.Sheet.{Node, Judged}
 use Rattle.spec.specs.Tree.{judge}
-use Rattle.spec.specs.Scopes.{Scopes, exprAt, isIn, holder}
-use Rattle.spec.specs.Answer.{references, chain, referenceText, scopeOfExpr}
+use Rattle.spec.specs.Module.{Module}
+use Rattle.spec.specs.Lower.{lowerModule}
+use Rattle.spec.specs.Scopes.{Scopes, exprAt, isIn, holds, holder, scopesOf}
+use Rattle.spec.specs.Answer.{chain, referenceText, scopeAt, scopeOfExpr}
 use Rattle.spec.specs.Calls.{Condition, fit, Call, askReference, askName, changeReference, changeName, Outcome, isAccepted, oldText, newText}
-use Rattle.spec.specs.Book.{bookOf, bookOutcomes, bookAfterAll}
-use Rattle.spec.specs.Kept.{Kept, keptAnswer, keptOutcome, keptAfter, bears, loaded, answersAfresh, referencesAfresh}
+use Rattle.spec.specs.Book.{Book, bookOf, bookOutcome, bookAfter, bookOutcomes, bookAfterAll}
+use Rattle.spec.specs.Kept.{Kept, keptOf, keptAnswer, keptOutcome, keptAfter, bears, loaded, answersAfresh, referencesAfresh}
 
 -- ---- what a call may move
+-- "A name is held by the scope it is entered in": no name is held by two
+abbrev pub HeldOnce : Scopes → Type 0
+HeldOnce w =
+    (x : NameId) (s s′ : ScopeId) → s < length (w .scopes) → s′ < length (w .scopes)
+    → holds x (scopeAt (w .scopes) s .kind) ≡ true → holds x (scopeAt (w .scopes) s′ .kind) ≡ true → s ≡ s′
+
 -- "whose scope is the name's scope or inside it": the name's scope is in the chain of the Reference's; "a name held by no scope moves none"
 unfoldable pub within : Scopes → Option ScopeId → Option ScopeId → Bool
 within w none s = false
@@ -51,7 +60,13 @@ module _ (Store : Type 0) (kept : Store → Kept) (condition : Store → Conditi
     -- "A store as a load or an accepted change left it is never 22 or 23."
     pub stays : condition s ≡ fit → condition t ≡ fit
 
-  -- What loading promises of a sheet that it accepts.
+  -- A store that a module was put into, before the first call.
+  pub record Starts (m : Module) (s : Store) : Type 0 where
+    pub left : kept s ≡ keptOf m
+    pub sound : condition s ≡ fit
+    pub once : HeldOnce (scopesOf m)
+
+  -- What loading promises of a sheet that it accepts. It is such a store: that its names are held once is a theorem about lowering.
   pub record LoadedFrom (sheet : List ℕ) (nodes : List Node) (s : Store) : Type 0 where
     pub judged : judge sheet ≡ Judged.accepted nodes
     pub left : kept s ≡ loaded nodes
@@ -62,28 +77,52 @@ module _ (Store : Type 0) (kept : Store → Kept) (condition : Store → Conditi
     done : (s : Store) → Trace s [] s
     call : (s t u : Store) (c : Call) (o : Outcome) (rest : List (Call × Outcome)) → Called s c o t → Trace t rest u → Trace s ((c, o) ∷ rest) u
 
-  -- every call of a trace moved only what it may
-  unfoldable pub eachMoves : (s u : Store) (calls : List (Call × Outcome)) → Trace s calls u → Type 0
-  eachMoves s u calls (done s′) = Unit {0}
-  eachMoves s u calls (call s′ t u′ c o rest here more) = Moves (kept s′) c o (kept t) × eachMoves t u′ rest more
-
-  -- What holds after a list of calls from an accepted load.
-  pub record Holds (nodes : List Node) (s u : Store) (calls : List (Call × Outcome)) (trace : Trace s calls u) : Type 0 where
-    -- "each accepted asking in the list was answered so at its turn", and "Each call's refusal, place, answer, length and list .. are the book's"
-    pub outcomes : map (λ x. x .1) calls ≡ bookOutcomes (bookOf nodes) (map (λ x. x .0) calls)
-    -- "and the texts, .. in the store after it, are the book's"; with them all of the module, which but for texts stays as loaded
-    pub texts : kept u .lowered ≡ bookAfterAll (bookOf nodes) (map (λ x. x .0) calls) .lowered
-    -- "over the scopes as loaded"
-    pub scopes : kept u .scopes ≡ bookOf nodes .scopes
+  -- What a store keeps is the book's.
+  pub record KeepsBook (b : Book) (s : Store) : Type 0 where
+    -- "the texts, .. in the store after it, are the book's"; with them all of the module, which but for texts stays as loaded
+    pub texts : kept s .lowered ≡ b .lowered
+    -- the book's scopes never change: "over the scopes as loaded"
+    pub scopes : kept s .scopes ≡ b .scopes
     -- "every reference keeps exactly the answer .. that the definition in 2 gives afresh .. for the texts as they then read"
-    pub answers : kept u .answers ≡ answersAfresh (kept u .lowered) (kept u .scopes)
+    pub answers : kept s .answers ≡ answersAfresh (b .lowered) (b .scopes)
     -- "and every name exactly the references"
-    pub references : kept u .references ≡ referencesAfresh (kept u .lowered) (kept u .scopes)
-    pub room : kept u .spent ≡ bookAfterAll (bookOf nodes) (map (λ x. x .0) calls) .spent
-    pub moves : eachMoves s u calls trace
+    pub references : kept s .references ≡ referencesAfresh (b .lowered) (b .scopes)
+    -- "spends room as 27 says"
+    pub room : kept s .spent ≡ b .spent
+    -- "A store as a load or an accepted change left it is never 22 or 23."
+    pub sound : condition s ≡ fit
+
+  -- What holds of a call at its turn, b being the book before it.
+  pub record Turn (b : Book) (s : Store) (c : Call) (o : Outcome) (t : Store) : Type 0 where
+    -- "Each call's refusal, place, answer, length and list .. are the book's", so that "each accepted asking in the list was answered so at its turn"
+    pub told : o ≡ bookOutcome b c
+    -- "and the texts, kept answers and kept references in the store after it"
+    pub keeps : KeepsBook (bookAfter b c) t
+    -- "A changed reference moves its own answer only. ..": only what may move has moved
+    pub moves : Moves (kept s) c o (kept t)
+
+  -- it holds of every call of a trace, at its turn
+  unfoldable pub Follows : (b : Book) (s u : Store) (calls : List (Call × Outcome)) → Trace s calls u → Type 0
+  Follows b s u calls (done s′) = Unit {0}
+  Follows b s u calls (call s′ t u′ c o rest here more) = Turn b s′ c o t × Follows (bookAfter b c) t u′ rest more
+
+  -- What holds of a list of calls from a store that a module was put into: "a single claim about the whole list of calls, not one for each call".
+  pub record Holds (m : Module) (s u : Store) (calls : List (Call × Outcome)) (trace : Trace s calls u) : Type 0 where
+    -- before the first call: "It starts with the module and texts that these rules make of the loaded sheet, no room spent."
+    pub begins : KeepsBook (bookOf m) s
+    -- at every call: "Each call's refusal, place, answer, length and list, and the texts, kept answers and kept
+    -- references in the store after it, are the book's"
+    pub follows : Follows (bookOf m) s u calls trace
+    -- the outcomes of all of them
+    pub outcomes : map (λ x. x .1) calls ≡ bookOutcomes (bookOf m) (map (λ x. x .0) calls)
+    -- "after it, every reference keeps exactly the answer, and every name exactly the references, that the definition
+    -- in 2 gives afresh, .. for the texts as they then read"
+    pub ends : KeepsBook (bookAfterAll (bookOf m) (map (λ x. x .0) calls)) u
+    -- "over the scopes as loaded"
+    pub scopes : kept u .scopes ≡ scopesOf m
 
   -- "For every list of text changes and askings, refused ones included, whatever numbers and texts they bring, from the store as an accepted load left it"
   unfoldable pub Demand3 : Type 0
   Demand3 =
       (sheet : List ℕ) (nodes : List Node) (s : Store) → LoadedFrom sheet nodes s
-      → (u : Store) (calls : List (Call × Outcome)) (trace : Trace s calls u) → Holds nodes s u calls trace
+      → (u : Store) (calls : List (Call × Outcome)) (trace : Trace s calls u) → Holds (lowerModule nodes) s u calls trace

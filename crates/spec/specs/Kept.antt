@@ -34,12 +34,15 @@ answersAfresh m w = tabulate (answer m w) 0 (m .exprs)
 unfoldable pub referencesAfresh : Module → Scopes → List (List ExprId)
 referencesAfresh m w = tabulate (references m w) 0 (m .names)
 
--- what an accepted load leaves
-unfoldable pub loaded : List Node → Kept
-loaded nodes =
-    let m = lowerModule nodes in
+-- what is kept of a module before the first call: everything is worked out afresh, no room is spent
+unfoldable pub keptOf : Module → Kept
+keptOf m =
     let w = scopesOf m in
     record { lowered = m; scopes = w; answers = answersAfresh m w; references = referencesAfresh m w; spent = 0 }
+
+-- what an accepted load leaves
+unfoldable pub loaded : List Node → Kept
+loaded nodes = keptOf (lowerModule nodes)
 
 -- ---- asking: what is kept
 unfoldable pub keptAnswer : Kept → ExprId → Option Answer

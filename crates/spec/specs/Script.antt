@@ -6,6 +6,7 @@ use Prim.Native.Nat.{ℕ, zero, suc}
 use lib.ListN.{replicate}
 use Rattle.spec.specs.Basics.{bytes}
 use Rattle.spec.specs.Sheet.{Node}
+use Rattle.spec.specs.Lower.{lowerModule}
 use Rattle.spec.specs.Answer.{unresolved, definition, builtin}
 use Rattle.spec.specs.Calls.{fit, Call, askReference, askName, changeReference, changeName, Outcome, refusal, answered, listed, accepted}
 use Rattle.spec.specs.Book.{bookOf, bookOutcomes}
@@ -61,7 +62,7 @@ calls = map (λ x. x .0) script
 abbrev pub outcomes : List Outcome
 outcomes = map (λ x. x .1) script
 
-pub by-the-book : bookOutcomes (bookOf nodes) calls ≡ outcomes
+pub by-the-book : bookOutcomes (bookOf (lowerModule nodes)) calls ≡ outcomes
 unfolding computes
 by-the-book = refl
 

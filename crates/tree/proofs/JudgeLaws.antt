@@ -2,16 +2,15 @@
 use mathlib.Core.Path.{_≡_, refl, sym, ap, ap₂, _∙_}
 use mathlib.Core.Bool.{Bool, true, false, _&&_}
 use mathlib.Core.List.{List}
-use mathlib.Core.Option.{Option, none, some}
 use Prim.Native.Nat.{ℕ, _+_, _≤_, _<_}
-use Prim.Native.String.{String}
 use native.Mathlib.Omega.{arith}
 use lib.ListN.{length}
 use lib.Dec.{eqb, leb}
-use borrow.Author.Tests.{leb-true, eq-eqb, ne-eqb}
-use Rattle.spec.specs.Basics.{Text, bytes, if_then_else_, maybe}
-use Rattle.spec.specs.Sheet.{Fault, malformed, wrongCount, Got, got, bad, next, line, field, number, decimal, Judged, accepted, refused, readSheet}
+use borrow.Author.Tests.{eq-eqb, ne-eqb}
+use Rattle.spec.specs.Basics.{bytes, if_then_else_}
+use Rattle.spec.specs.Sheet.{wrongCount, number, decimal, Judged, accepted, refused, readSheet}
 use Rattle.spec.specs.Tree.{walkTo, wholeTree, judgeTree, judge}
+use Rattle.spec.proofs.Lines.{number-within}
 use Rattle.spec.proofs.Reading.{Sheet, accepted-sheet}
 use Rattle.sheet.specs.Keyed.{numberOf}
 use Rattle.sheet.specs.Sheets.{answer, firstNode, placeOf}
@@ -19,7 +18,6 @@ use Rattle.sheet.proofs.LineLaws.{number-is, field-inside}
 use Rattle.sheet.specs.declared.position.Position.{Position}
 use Rattle.sheet.specs.declared.sheets.SheetRead.{SheetRead}
 use Rattle.sheet.specs.declared.sheets.SheetRead.the-variants.{Accepted, Refused}
-use Rattle.words.proofs.Tests.{both-first}
 use Rattle.tree.specs.Nodes.{nodesIn, Stands}
 use Rattle.tree.specs.Walk.{Walks}
 use Rattle.tree.specs.Judge.{Nodes, treeAnswer}
@@ -48,33 +46,14 @@ module _ (s : List ℕ) (r : SheetRead) (e : r ≡ answer s (readSheet s)) where
       by-lines (refused n p) f h = let z : _≡_ {A = ℕ} 0 1 = cc in absurd (omega arith)
 
 -- ---- the first node
--- a field that was read passes its test
-field-passes : {A : Type 0} (key : String) (parse : Text → Option A) (why : Fault) (test : A → Bool) (s : List ℕ) (at : ℕ) (a : A) (place : ℕ)
-    → field key parse why test s at ≡ got a place → test a ≡ true
-unfolding field next
-field-passes {A} key parse why test s at a place e = go (line key s at) e
-  where
-    tested : (t : Bool) (b : A) (p : ℕ) → test b ≡ t → (if t then got b p else bad why at) ≡ got a place → test a ≡ true
-    tested true b p h q = let g : b ≡ a = cc in ap test (sym g) ∙ h
-    tested false b p h q = let z : _≡_ {A = ℕ} 0 1 = cc in absurd (omega arith)
-
-    parsed : (o : Option A) (p : ℕ) → maybe o (bad malformed at) (λ b. if test b then got b p else bad why at) ≡ got a place → test a ≡ true
-    parsed none p q = let z : _≡_ {A = ℕ} 0 1 = cc in absurd (omega arith)
-    parsed (some b) p q = tested (test b) b p refl q
-
-    go : (g : Got Text) → next (λ v _ p. maybe (parse v) (bad malformed at) (λ b. if test b then got b p else bad why at)) s g ≡ got a place → test a ≡ true
-    go (got v p) q = parsed (parse v) p q
-    go (bad w p) q = let z : _≡_ {A = ℕ} 0 1 = cc in absurd (omega arith)
-
 module _ (s : List ℕ) (nodes : ℕ) (first : Position) (h : Nodes s nodes first) where
   sheet : Sheet s (nodesIn s)
   sheet = accepted-sheet s (nodesIn s) (h .right)
 
   pub some-nodes : 0 < nodes
-  unfolding number
   some-nodes =
-      let passed = field-passes "nodes=" decimal wrongCount (λ v. leb 1 v && leb v 4096) s 0 (length (nodesIn s)) (sheet .start) (sheet .counted) in
-      omega (arith, leb-true 1 (length (nodesIn s)) (both-first _ _ passed), h .count)
+      let within = number-within "nodes=" wrongCount 1 4096 s 0 (length (nodesIn s)) (sheet .start) (sheet .counted) in
+      omega (arith, within .0, h .count)
 
   starts : first .at ≡ sheet .start
   unfolding firstNode
