@@ -4,3 +4,11 @@ pub mod SoundTextLaws
 pub mod SoundRowLaws
 pub mod SoundTableLaws
 pub mod SoundVerdictLaws
+pub mod CodedLaws
+pub mod NumberLaws
+pub mod ModuleLaws
+pub mod FieldLaws
+pub mod ItemLaws
+pub mod ItemSortLaws
+pub mod FitLaws
+pub mod FrameLaws

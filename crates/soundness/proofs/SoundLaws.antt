@@ -6,7 +6,7 @@ use native.Mathlib.Nat.{not-suc-le-zero}
 use native.Mathlib.Numerals.{add-one}
 use native.Mathlib.Omega.{arith}
 use lib.Dec.{eqb, leb, ltb}
-use borrow.Author.Tests.{eqb-true, eqb-false, leb-true, lt-ltb, le-ltb, le-leb, lt-leb, eq-eqb, ne-eqb}
+use borrow.Author.Tests.{eqb-true, eqb-false, leb-true, ltb-false, lt-ltb, le-ltb, le-leb, lt-leb, eq-eqb, ne-eqb}
 use Rattle.soundness.specs.Sound.{allTo, allFrom, ascends}
 
 -- ---- two tests
@@ -67,6 +67,11 @@ module _ (f : ℕ → Bool) where
   unfolding allTo
   all-each n i h l = second-of (allTo f i) (f i) (all-fewer n (suc i) (omega arith) h)
 
+  pub all-from-each : (n : ℕ) → ((i : ℕ) → i < n → f i ≡ true) → allTo f n ≡ true
+  unfolding allTo
+  all-from-each zero h = refl
+  all-from-each (suc n) h = both-hold (allTo f n) (f n) (all-from-each n (λ i l. h i (omega arith))) (h n (omega arith))
+
 -- ---- those from i on, before j
 module _ (f : ℕ → Bool) (i : ℕ) where
   passed-over : (j : ℕ) → j ≤ i → allTo (λ k. ltb k i || f k) j ≡ true
@@ -89,6 +94,14 @@ module _ (f : ℕ → Bool) (i : ℕ) where
   pub from-fewer : (j n : ℕ) → n ≤ j → allFrom f i j ≡ true → allFrom f i n ≡ true
   unfolding allFrom
   from-fewer j n l h = all-fewer (λ k. ltb k i || f k) j n l h
+
+  pub from-each : (j : ℕ) → ((k : ℕ) → i ≤ k → k < j → f k ≡ true) → allFrom f i j ≡ true
+  unfolding allFrom
+  from-each j h = all-from-each (λ k. ltb k i || f k) j (λ k l. by k l (ltb k i) refl)
+    where
+      by : (k : ℕ) → k < j → (b : Bool) → ltb k i ≡ b → (b || f k) ≡ true
+      by k l true e = refl
+      by k l false e = h k (ltb-false k i e) l
 
 -- ---- firsts that ascend
 abbrev rises : (ℕ → ℕ) → ℕ → Bool
@@ -135,6 +148,11 @@ module _ (first : ℕ → ℕ) where
         (λ b.
         let one : first m ≤ first (m + 1) = leb-true (first m) (first (m + 1)) (all-each (rises first) n m s k) in
         rw (sym (add-one m)) (omega (arith, up s m (omega arith) i (omega arith))))
+
+    pub ascends-from : first 0 ≡ 0 → ((i : ℕ) → i < n → first i ≤ first (i + 1)) → first n ≤ limit → ascends first n limit ≡ true
+    unfolding ascends
+    ascends-from base steps top =
+        rw (eq-eqb (first 0) 0 base, all-from-each (rises first) n (λ i l. le-leb (first i) (first (i + 1)) (steps i l)), le-leb (first n) limit top)
 
     pub below-limit : ascends first n limit ≡ true → (i : ℕ) → i ≤ n → first i ≤ limit
     unfolding ascends

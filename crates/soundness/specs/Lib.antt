@@ -1,3 +1,4 @@
 pub mod Sound
 pub mod SoundCounts
+pub mod Coded
 pub mod Verdict
