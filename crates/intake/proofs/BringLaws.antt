@@ -1,6 +1,6 @@
 -- The nodes of a sheet, brought in one after the other. Assumes nothing.
 use mathlib.Core.Path.{_≡_, refl, sym, ap, _∙_, subst}
-use mathlib.Core.Logic.{_⊎_, ⊎-elim}
+use mathlib.Core.Logic.{_⊎_, inl, inr, ⊎-elim}
 use mathlib.Core.Bool.{Bool, true, false, _&&_}
 use mathlib.Core.List.{List, [], _∷_, _++_, append-nil, append-assoc}
 use mathlib.Core.Option.{Option, none, some}
@@ -10,7 +10,7 @@ use lib.ListN.{length}
 use lib.Dec.{eqb, leb, ltb}
 use borrow.Author.Tests.{leb-true, eqb-true, ltb-true, lt-ltb}
 use Rattle.words.specs.Words.{word, setWord}
-use Rattle.words.proofs.WordLaws.{word-setWord-same}
+use Rattle.words.proofs.WordLaws.{length-setWord, word-setWord-same, word-setWord-other}
 use Rattle.spec.specs.Basics.{NodeId, bytes, if_then_else_}
 use Rattle.spec.specs.Sheet as spec
 use Rattle.spec.specs.Sheet.{Node, Got, got, bad, next, _>>=_, give, wrongCount, allBelow, node, nodesFrom, nodeList, accepted, refused, whole, readSheet}
@@ -26,20 +26,26 @@ use Rattle.sheet.specs.declared.nodes.NodeRead.{NodeRead}
 use Rattle.sheet.specs.declared.nodes.NodeRead.the-variants as read
 use Rattle.sheet.specs.declared.numbers.NumberRead.{NumberRead}
 use Rattle.sheet.specs.declared.numbers.NumberRead.the-variants as number
-use Rattle.layout.specs.Layout.{Long, storeBytes, textsPlace, nodeCount, nodesAt, kidsAt, nodeLimit, kidLimit}
+use Rattle.layout.specs.Layout.{Long, storeBytes, textsPlace, textsAt, nodeCount, nodesAt, kidsAt, nodeLimit, kidLimit}
 use Rattle.layout.specs.Rows.{rowsTo}
+use Rattle.layout.specs.Texts.{textsUsed, textIn}
+use Rattle.layout.specs.Regions.{bringing}
 use Rattle.layout.specs.Nodes.{nodeIn, nodesOf}
 use Rattle.spec.specs.Tree.{kidPlaces}
-use Rattle.intake.specs.Bring.{Within, sheetTexts, kidsIn, Spans, RowIn, RowOver, RowBrought, ahead, Bringing, Refuses, NodeIn, Stopped, NodeBrought, Counted, AllIn, AllBrought, Brought}
+use Rattle.spec.proofs.Lines.{number-within}
+use Rattle.spec.proofs.Sums.{sum-append}
+use Rattle.spec.proofs.TextRoom.{textBytes, node-long}
+use Rattle.intake.specs.Bring.{Within, sheetTexts, kidsIn, Spans, Rows, RowIn, RowOver, RowBrought, ahead, Bringing, Refuses, NodeIn, Stopped, NodeBrought, Counted, AllIn, AllBrought, Brought}
 use Rattle.intake.specs.declared.bring.Front.{Front}
 use Rattle.intake.specs.declared.bring.Room.{Room}
 use Rattle.intake.specs.declared.bring.Room.the-variants as room
 use Rattle.intake.specs.declared.bring.Step.{Step}
 use Rattle.intake.specs.declared.bring.Step.the-variants as step
-use Rattle.layout.proofs.RowLaws.{cap-le, rows-same, rows-none}
-use Rattle.intake.proofs.WithinLaws.{within-none, within-put, within-wide, within-then, word-before, word-after, text-after}
+use Rattle.layout.proofs.RowLaws.{cap-le, rows-same, rows-none, length-rows}
+use Rattle.layout.proofs.Frames.{wrote-none, wrote-then}
+use Rattle.intake.proofs.WithinLaws.{within-none, within-put, within-wide, within-then, word-before, word-after, within-past, brings-used, brings-sheet}
+use Rattle.intake.proofs.TextLaws.{used-is, text-in}
 use Rattle.intake.proofs.BringRowLaws.{node-same}
-use Rattle.intake.proofs.SheetPlaces.{field-read, node-place}
 
 -- ---- an accepted sheet
 pub record Whole (s : List ℕ) (ns : List Node) : Type 0 where
@@ -125,8 +131,8 @@ module _ (s : List ℕ) (count i : ℕ) (f : Front) (t : List ℕ) (b : Bringing
       inside : n .next .at ≤ length s
       inside = omega (arith, formed .next, formed .text .within)
 
-      apart : f .at + 8 + 2 * length (nodeOf s n .text) ≤ n .next .at
-      apart = node-place count i s (f .at) (nodeOf s n) (n .next .at) got-it
+      apart : f .at + 34 + 2 * length (nodeOf s n .text) ≤ n .next .at
+      apart = node-long count i s (f .at) (nodeOf s n) (n .next .at) got-it
 
       pub its-spans : count ≤ nodeLimit → Spans s n
       unfolding kidsIn
@@ -152,6 +158,9 @@ module _ (s : List ℕ) (count i : ℕ) (f : Front) (t : List ℕ) (b : Bringing
                   inside = omega (arith, r .place, inside);
                   same = rw (r .same, r .place) (nodes-more (nodeOf s n) (n .next .at) got-it);
                   total = ap kidPlaces (r .same) ∙ places-both (rowsTo (nodeIn t) i) (nodeOf s n ∷ []) ∙ omega (arith, b .total, places-one (nodeOf s n), r .kids);
+                  bytes =
+                      ap textBytes (r .same) ∙ sum-append (λ (x : Node). length (x .text) + 4) (rowsTo (nodeIn t) i) (nodeOf s n ∷ [])
+                      ∙ omega (arith, b .bytes, r .texts);
                   half = omega (arith, apart, r .place, r .texts, b .half);
                   rows = r .rows;
                 };
@@ -186,10 +195,6 @@ module _ (s : List ℕ) (count i : ℕ) (f : Front) (t : List ℕ) (b : Bringing
       node-brought u step.Full h = node-over u h
 
 -- ---- the first line
-both-last : (t u : Bool) → (t && u) ≡ true → u ≡ true
-both-last true u h = h
-both-last false u h = cc
-
 module _ (s : List ℕ) (r : NumberRead) (e : gotNumber r ≡ numberOf (bytes "nodes=") wrongCount 1 4096 s 0) where
   here : spec.number "nodes=" wrongCount 1 4096 s 0 ≡ gotNumber r
   here = number-by "nodes=" wrongCount 1 4096 s 0 (gotNumber r) e
@@ -198,17 +203,16 @@ module _ (s : List ℕ) (r : NumberRead) (e : gotNumber r ≡ numberOf (bytes "n
   unfolding nodeList _>>=_ next
   count-bad why at q t =
       record {
-        long = refl;
-        below = λ j h. refl;
+        wrote = wrote-none bringing t;
+        past = refl;
         holds = λ ns a few. absurd (bad-refuses s (faultOf why) at (rw (here, q)) ns a few);
       }
 
   pub counted : (count : ℕ) (first : Position) → r ≡ number.Value count first → Counted s count (first .at)
-  unfolding nodeList _>>=_ next spec.number
+  unfolding nodeList _>>=_ next
   counted count first q =
-      let z = field-read "nodes=" spec.decimal wrongCount (λ v. leb 1 v && leb v 4096) s 0 count (first .at) (here ∙ ap gotNumber q) in
       record {
-        few = leb-true count 4096 (both-last (leb 1 count) (leb count 4096) (z .passed));
+        few = number-within "nodes=" wrongCount 1 4096 s 0 count (first .at) (here ∙ ap gotNumber q) .1;
         inside = number-inside (bytes "nodes=") wrongCount 1 4096 s 0 r e count first q;
         same = rw (here, q);
       }
@@ -218,20 +222,25 @@ ahead-none : (g : Got (List Node)) → ahead [] g ≡ g
 ahead-none (got ms at) = refl
 ahead-none (bad w at) = refl
 
-pub bringing-start : (s : List ℕ) (count at : ℕ) → Counted s count at → (t t₁ : List ℕ) → Long t → t₁ ≡ setWord t nodesAt 0
+pub bringing-start : (s : List ℕ) (count at : ℕ) → Counted s count at → (t t₀ t₁ : List ℕ) → Long t → t₀ ≡ setWord t textsPlace sheetTexts → t₁ ≡ setWord t₀ nodesAt 0
     → Bringing s count 0 (record { at = at; kids = 0; texts = 0 }) t₁
 unfolding kidPlaces
-bringing-start s count at c t t₁ long e =
+bringing-start s count at c t t₀ t₁ long d e =
+    let size : length t₀ ≡ length t = rw d (length-setWord t textsPlace sheetTexts) in
     let all : count - 0 ≡ count = omega arith in
     record {
       left = omega arith;
       inside = c .inside;
       same = rw (rows-none (nodeIn t₁), all) (c .same ∙ sym (ahead-none (nodesFrom count count 0 s at)));
       total = rw (rows-none (nodeIn t₁));
+      bytes = rw (rows-none (nodeIn t₁));
       half = omega arith;
       rows =
           record {
-            here = ap (λ (x : List ℕ). word x nodesAt) e ∙ word-setWord-same t nodesAt 0 (omega arith) (omega arith);
+            in-use =
+                rw (e, word-setWord-other t₀ nodesAt 0 textsPlace (inl (omega arith)), d)
+                (word-setWord-same t textsPlace sheetTexts (omega arith) (omega arith));
+            here = ap (λ (x : List ℕ). word x nodesAt) e ∙ word-setWord-same t₀ nodesAt 0 (omega arith) (omega arith);
             kid-room = omega arith;
             text-room = omega arith;
             settled = λ k h. absurd (omega arith);
@@ -261,33 +270,46 @@ module _ {s : List ℕ} {count : ℕ} {t : List ℕ} {i : ℕ} {f : Front} {u : 
       record {
         end = f .at;
         same = g .brought .same ∙ rw (none-left, all) (ap (λ (l : List Node). got l (f .at)) (append-nil (rowsTo (nodeIn u) count)));
-        room = g .brought .rows .text-room;
+        kids = f .kids;
+        bytes = rw all at (g .brought .bytes);
+        rows = rw all at (g .brought .rows);
         wrote = g .wrote;
       }
 
 -- ---- all of it
--- what is written below the rows leaves the nodes
-node-above : (t u : List ℕ) → Within t u 0 nodesAt → (k : ℕ) → nodeIn u k ≡ nodeIn t k
-node-above t u w k =
-    node-same t u k (λ d l. word-after w (nodesAt + 24 * k + d) (omega arith)) (λ j l. word-after w (kidsAt + 4 * j) (omega arith))
-    (text-after w (word t (nodesAt + 24 * k + 20)) (omega arith))
+-- a text that lies within the bytes in use, with fewer of them or not
+text-above : (t u : List ℕ) → Within t u 0 nodesAt → (k : ℕ) → k + 4 + word t (textsAt + k) ≤ textsUsed t → k + 4 + word t (textsAt + k) ≤ textsUsed u → textIn u k ≡ textIn t k
+text-above t u w k a b =
+    let size : word u (textsAt + k) ≡ word t (textsAt + k) = word-after w (textsAt + k) (omega arith) in
+    text-in u k (rw size b) ∙ rw size (w .other (textsAt + k + 4) (word t (textsAt + k)) (inr (omega arith))) ∙ sym (text-in t k a)
 
-module _ (s t t₁ : List ℕ) (e : t₁ ≡ setWord t nodesAt 0) where
-  first-row : Within t t₁ nodesAt storeBytes
-  first-row = rw e (within-wide nodesAt storeBytes (within-put t nodesAt 0) (omega arith) (omega arith))
+-- what is written below the rows leaves the nodes, where their texts lie within the bytes in use
+node-above : (t u : List ℕ) → Within t u 0 nodesAt → (count kids texts : ℕ) → Rows t count kids texts → word u textsPlace ≡ texts → (k : ℕ) → k < count → nodeIn u k ≡ nodeIn t k
+node-above t u w count kids texts r e k h =
+    node-same t u k (λ d l. word-after w (nodesAt + 24 * k + d) (omega arith)) (λ j l. word-after w (kidsAt + 4 * j) (omega arith))
+    (text-above t u w (word t (nodesAt + 24 * k + 20))
+    (omega (arith, r .settled k h .text-end, r .text-room, used-is t sheetTexts (r .in-use) (omega arith)))
+    (omega (arith, r .settled k h .text-end, used-is u texts e (omega (arith, r .text-room)))))
+
+module _ (s t t₀ t₁ : List ℕ) (d : t₀ ≡ setWord t textsPlace sheetTexts) (e : t₁ ≡ setWord t₀ nodesAt 0) where
+  first-used : Within t t₀ textsPlace (textsPlace + 4)
+  first-used = rw d (within-put t textsPlace sheetTexts)
+
+  first-row : Within t₀ t₁ nodesAt storeBytes
+  first-row = rw e (within-wide nodesAt storeBytes (within-put t₀ nodesAt 0) (omega arith) (omega arith))
 
   pub stopped-brought : (u : List ℕ) → Stopped s t₁ u → Brought s t u false
   stopped-brought u o =
       let w = within-then first-row (o .wrote) in
       record {
-        long = w .long;
-        below = λ j h. word-before w j (⊎-elim (λ l. omega arith) (λ l. omega (arith, l .1)) h);
+        wrote = wrote-then (brings-used first-used) (brings-sheet w (omega arith) (omega arith));
+        past = within-past w storeBytes (omega arith) ∙ within-past first-used storeBytes (omega arith);
         holds = λ ns a few. absurd (o .refuses ns a few);
       }
 
   module _ (count texts : ℕ) (u : List ℕ) (a : AllIn s count texts t₁ u) (long : Long t) (few : count ≤ nodeLimit) (u₁ u₂ : List ℕ)
       (p : u₁ ≡ setWord u textsPlace texts) (q : u₂ ≡ setWord u₁ nodeCount count) where
-    w : Within t u nodesAt storeBytes
+    w : Within t₀ u nodesAt storeBytes
     w = within-then first-row (a .wrote)
 
     w₁ : Within u u₁ textsPlace (textsPlace + 4)
@@ -302,28 +324,43 @@ module _ (s t t₁ : List ℕ) (e : t₁ ≡ setWord t nodesAt 0) where
     texts-are : word u₂ textsPlace ≡ texts
     texts-are =
         word-before w₂ textsPlace (omega arith) ∙ ap (λ (x : List ℕ). word x textsPlace) p
-        ∙ word-setWord-same u textsPlace texts (omega (arith, w .long)) (omega (arith, a .room))
+        ∙ word-setWord-same u textsPlace texts (omega (arith, w .long, first-used .long)) (omega (arith, a .rows .text-room))
 
     count-is : word u₂ nodeCount ≡ count
-    count-is = ap (λ (x : List ℕ). word x nodeCount) q ∙ word-setWord-same u₁ nodeCount count (omega (arith, w .long, w₁ .long)) (omega arith)
+    count-is = ap (λ (x : List ℕ). word x nodeCount) q ∙ word-setWord-same u₁ nodeCount count (omega (arith, w .long, w₁ .long, first-used .long)) (omega arith)
 
     nodes-are : nodesOf u₂ ≡ rowsTo (nodeIn u) count
     unfolding nodesOf
-    nodes-are = rw (count-is, cap-le count nodeLimit few) (rows-same (nodeIn u₂) (nodeIn u) count (λ k h. node-above u u₂ header k))
+    nodes-are = rw (count-is, cap-le count nodeLimit few) (rows-same (nodeIn u₂) (nodeIn u) count (node-above u u₂ header count (a .kids) texts (a .rows) texts-are))
+
+    text-fits : (n : ℕ) → n < count → word u₂ (nodesAt + 24 * n + 20) + 4 + word u₂ (textsAt + word u₂ (nodesAt + 24 * n + 20)) ≤ word u₂ textsPlace
+    text-fits n h =
+        rw (
+          word-after header (nodesAt + 24 * n + 20) (omega arith),
+          word-after header (textsAt + word u (nodesAt + 24 * n + 20)) (omega arith),
+          texts-are,
+        )
+        (a .rows .settled n h .text-end)
 
     pub all-brought : Brought s t u₂ true
     all-brought =
         record {
-          long = w₂ .long ∙ w₁ .long ∙ w .long;
-          below = λ j h.
-              ⊎-elim
-              (λ l. word-before w₂ j (omega arith) ∙ word-before w₁ j (omega arith) ∙ word-before w j (omega arith))
-              (λ l. word-before w₂ j (omega (arith, l .1)) ∙ word-after w₁ j (omega (arith, l .0)) ∙ word-before w j (omega (arith, l .1)))
-              h;
+          wrote =
+              wrote-then (wrote-then (brings-used first-used) (brings-sheet w (omega arith) (omega arith)))
+              (wrote-then (brings-used w₁) (brings-sheet w₂ (omega arith) (omega arith)));
+          past =
+              within-past w₂ storeBytes (omega arith) ∙ within-past w₁ storeBytes (omega arith)
+              ∙ within-past w storeBytes (omega arith) ∙ within-past first-used storeBytes (omega arith);
           holds = λ ns z room.
               let same : got (rowsTo (nodeIn u) count) (a .end) ≡ got ns (length s) = sym (a .same) ∙ whole-sheet s ns z .listed in
               let these : rowsTo (nodeIn u) count ≡ ns = cc in
-              record { told = refl; nodes = nodes-are ∙ these; texts = rw texts-are (a .room) };
+              record {
+                told = refl;
+                nodes = nodes-are ∙ these;
+                used = texts-are ∙ sym (a .bytes) ∙ ap textBytes these;
+                texts = rw texts-are (a .rows .text-room);
+                fits = λ n h. text-fits n (omega (arith, ap length these, length-rows (nodeIn u) count));
+              };
         }
 
 -- ---- what an answer says, once it is known which it is

@@ -12,16 +12,18 @@ use Rattle.words.specs.Runs.{run}
 use Rattle.words.specs.Words.{word, number, setWord}
 use Rattle.sheet.specs.Nodes.{nodeOf}
 use Rattle.sheet.specs.declared.nodes.Node as row
-use Rattle.layout.specs.Layout.{Long, storeBytes, nodesAt, kidsAt, textsAt, nodeLimit, kidLimit}
+use Rattle.layout.specs.Layout.{Long, storeBytes, textsPlace, nodesAt, kidsAt, textsAt, nodeLimit, kidLimit}
 use Rattle.layout.specs.Rows.{rowsFrom, marked, setAll}
-use Rattle.layout.specs.Texts.{textIn}
+use Rattle.layout.specs.Texts.{textsUsed, textIn}
 use Rattle.layout.specs.Nodes.{kidIn, firstKid, nodeIn}
-use Rattle.intake.specs.Bring.{Within, kidsIn, KidsIn, KidsOver, KidsBrought, textFrom, TextBrought, TextOver, TextIn, Settled, Rows, RowPut, RowIn, RowOver}
+use Rattle.intake.specs.Bring.{Within, sheetTexts, kidsIn, KidsIn, KidsOver, KidsBrought, textFrom, TextBrought, TextOver, TextIn, Settled, Rows, RowPut, RowIn, RowOver}
 use Rattle.intake.specs.declared.bring.Front.{Front}
 use Rattle.intake.specs.declared.bring.Room.{Room}
 use Rattle.intake.specs.declared.bring.Room.the-variants as room
 use Rattle.layout.proofs.RowLaws.{cap-le, rows-same, rows-more, between-same}
-use Rattle.intake.proofs.WithinLaws.{Small, within-wide, within-then, within-all, word-before, word-after, text-same, text-after, all-is}
+use Rattle.layout.proofs.WriteLaws.{Small, all-is}
+use Rattle.intake.proofs.WithinLaws.{within-wide, within-then, within-all, word-before, word-after, text-same}
+use Rattle.intake.proofs.TextLaws.{used-is, text-in}
 
 -- ---- the words of a row, as the code writes them
 next-row : (k : ℕ) → nodesAt + 24 * (k + 1) ≡ nodesAt + 24 * k + 24
@@ -94,6 +96,7 @@ node-same t u k w kids text =
 
 -- ---- what is appended leaves what was there
 record Keeps (t u : List ℕ) (i ks ts : ℕ) : Type 0 where
+  used : word u textsPlace ≡ word t textsPlace
   rows : (j : ℕ) → nodesAt ≤ j → j ≤ nodesAt + 24 * i → word u j ≡ word t j
   kids : (j : ℕ) → j < ks → word u (kidsAt + 4 * j) ≡ word t (kidsAt + 4 * j)
   texts : (j n : ℕ) → textsAt ≤ j → j + n ≤ textsAt + ts → run u j n ≡ run t j n
@@ -102,6 +105,7 @@ module _ {t u : List ℕ} {i kids texts : ℕ} (b : i < nodeLimit) (c : kids ≤
   keeps-then : {v : List ℕ} → Keeps t u i kids texts → Keeps u v i kids texts → Keeps t v i kids texts
   keeps-then p q =
       record {
+        used = q .used ∙ p .used;
         rows = λ j l h. q .rows j l h ∙ p .rows j l h;
         kids = λ j h. q .kids j h ∙ p .kids j h;
         texts = λ j n l h. q .texts j n l h ∙ p .texts j n l h;
@@ -110,6 +114,7 @@ module _ {t u : List ℕ} {i kids texts : ℕ} (b : i < nodeLimit) (c : kids ≤
   by-kids : {hi : ℕ} → Within t u (kidsAt + 4 * kids) hi → hi ≤ textsAt → Keeps t u i kids texts
   by-kids w h =
       record {
+        used = word-before w textsPlace (omega arith);
         rows = λ j l k. word-before w j (omega arith);
         kids = λ j k. word-before w (kidsAt + 4 * j) (omega arith);
         texts = λ j n l k. w .other j n (inr (omega arith));
@@ -118,6 +123,7 @@ module _ {t u : List ℕ} {i kids texts : ℕ} (b : i < nodeLimit) (c : kids ≤
   by-text : {hi : ℕ} → Within t u (textsAt + texts) hi → Keeps t u i kids texts
   by-text w =
       record {
+        used = word-before w textsPlace (omega arith);
         rows = λ j l k. word-before w j (omega arith);
         kids = λ j k. word-before w (kidsAt + 4 * j) (omega arith);
         texts = λ j n l k. w .other j n (inl (omega arith));
@@ -126,6 +132,7 @@ module _ {t u : List ℕ} {i kids texts : ℕ} (b : i < nodeLimit) (c : kids ≤
   by-row : {hi : ℕ} → Within t u (nodesAt + 24 * i + 4) hi → hi ≤ kidsAt → Keeps t u i kids texts
   by-row w h =
       record {
+        used = word-before w textsPlace (omega arith);
         rows = λ j l k. word-before w j (omega arith);
         kids = λ j k. word-after w (kidsAt + 4 * j) (omega arith);
         texts = λ j n l k. w .other j n (inr (omega arith));
@@ -149,7 +156,7 @@ module _ {t u : List ℕ} {i kids texts : ℕ} (r : Rows t i kids texts) (p : Ke
       let s = r .settled k h in
       node-same t u k (λ d l. p .rows (nodesAt + 24 * k + d) (omega arith) (omega arith))
       (λ j l. p .kids j (omega (arith, s .kids-end, cap-le (word t (nodesAt + 24 * (k + 1))) kidLimit (omega (arith, s .kids-end, r .kid-room)))))
-      (text-same t u its-text same-size (p .texts (textsAt + its-text + 4) (word t (textsAt + its-text)) (omega arith) (omega (arith, s .text-end))))
+      (text-same t u its-text (p .used) same-size (p .texts (textsAt + its-text + 4) (word t (textsAt + its-text)) (omega arith) (omega (arith, s .text-end))))
 
   settled-kept : {kids₂ texts₂ : ℕ} → kids ≤ kids₂ → texts ≤ texts₂ → Settled u kids₂ texts₂ k
   unfolding its-text
@@ -189,6 +196,12 @@ module _ (s : List ℕ) (n : row.Node) (i : ℕ) (f : Front) (t t₁ t₂ u : Li
   put : Within t₂ u (nodesAt + 24 * i + 4) (nodesAt + 24 * i + 28)
   put = words .wrote
 
+  -- the rows before it
+  kept : Keeps t u i (f .kids) (f .texts)
+  kept =
+      keeps-then b (r .kid-room) (keeps-then b (r .kid-room) (by-kids b (r .kid-room) (k .wrote) (omega (arith, k .room))) (by-text b (r .kid-room) (x .wrote)))
+      (by-row b (r .kid-room) put (omega arith))
+
   begin : word u (nodesAt + 24 * i) ≡ f .kids
   begin =
       word-before put (nodesAt + 24 * i) (omega arith) ∙ word-before (x .wrote) (nodesAt + 24 * i) (omega arith)
@@ -200,17 +213,19 @@ module _ (s : List ℕ) (n : row.Node) (i : ℕ) (f : Front) (t t₁ t₂ u : Li
       between t₁ u (f .kids) last (λ j l h. word-after put (kidsAt + 4 * j) (omega arith) ∙ word-before (x .wrote) (kidsAt + 4 * j) (omega (arith, k .room)))
       ∙ k .same
 
+  its-size : word u (textsAt + f .texts) ≡ length (textFrom s (n .text .start) (n .text .end))
+  its-size = word-after put (textsAt + f .texts) (omega arith) ∙ x .size
+
+  -- the text lies within the bytes in use
   its-bytes : textIn u (f .texts) ≡ textFrom s (n .text .start) (n .text .end)
-  its-bytes = text-after put (f .texts) (omega arith) ∙ x .same
+  its-bytes =
+      let used : textsUsed u ≡ sheetTexts = used-is u sheetTexts (kept .used ∙ r .in-use) (omega arith) in
+      text-in u (f .texts) (omega (arith, used, its-size, x .count, x .room))
+      ∙ ap (run u (textsAt + f .texts + 4)) its-size
+      ∙ put .other (textsAt + f .texts + 4) (length (textFrom s (n .text .start) (n .text .end))) (inr (omega arith)) ∙ x .same
 
   newest : nodeIn u i ≡ nodeOf s n
   newest = node-new s t₂ u i n (f .kids) (f .texts) last words begin (omega (arith, k .count)) (k .room) its-kids its-bytes
-
-  -- those before it
-  kept : Keeps t u i (f .kids) (f .texts)
-  kept =
-      keeps-then b (r .kid-room) (keeps-then b (r .kid-room) (by-kids b (r .kid-room) (k .wrote) (omega (arith, k .room))) (by-text b (r .kid-room) (x .wrote)))
-      (by-row b (r .kid-room) put (omega arith))
 
   settle : (j : ℕ) → j < i + 1 → Settled u last texts j
   settle j h = go (ltb j i) refl
@@ -219,18 +234,17 @@ module _ (s : List ℕ) (n : row.Node) (i : ℕ) (f : Front) (t t₁ t₂ u : Li
       go true q = settled-kept r kept j (ltb-true j i q) (omega (arith, k .count)) (omega (arith, x .count))
       go false q =
           let same : j ≡ i = omega (arith, ltb-false j i q) in
-          let size : word u (textsAt + f .texts) ≡ length (textFrom s (n .text .start) (n .text .end)) = word-after put (textsAt + f .texts) (omega arith) ∙ x .size in
           rw same
           (record {
             kids-end = omega (arith, words .next);
-            text-end = rw (words .text, size) (omega (arith, x .count));
+            text-end = rw (words .text, its-size) (omega (arith, x .count));
           })
 
   pub row-brought : RowIn s n t u i f (record { at = n .next .at; kids = last; texts = texts })
   unfolding kidsIn textFrom
   row-brought =
       record {
-        rows = record { here = words .next; kid-room = k .room; text-room = x .room; settled = settle };
+        rows = record { in-use = kept .used ∙ r .in-use; here = words .next; kid-room = k .room; text-room = x .room; settled = settle };
         same =
             rows-more (nodeIn u) i ∙ rw (newest, rows-same (nodeIn u) (nodeIn t) i (λ j h. node-kept r kept j h));
         kids = k .count;

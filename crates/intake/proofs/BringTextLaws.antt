@@ -12,7 +12,6 @@ use Rattle.sheet.specs.Texts.{decoded}
 use Rattle.sheet.proofs.TextLaws.{length-decoded}
 use Rattle.layout.specs.Layout.{Long, textsAt}
 use Rattle.intake.specs.Bring.{Within, sheetTexts, textFrom, TextBrought, TextOver}
-use Rattle.intake.proofs.TextLaws.{text-in}
 use Rattle.intake.proofs.WithinLaws.{within-put, within-splice, within-wide, within-then, word-before}
 
 module _ (s : List ℕ) (start end : ℕ) (o : start ≤ end) (h : end ≤ length s) where
@@ -56,5 +55,5 @@ module _ (s : List ℕ) (start end : ℕ) (o : start ≤ end) (h : end ≤ lengt
                 within-then (within-wide (textsAt + first) (textsAt + (first + 4 + n)) put (omega arith) (omega arith))
                 (within-wide (textsAt + first) (textsAt + (first + 4 + n)) pasted (omega arith) (omega (arith, counted)));
             size = its-size;
-            same = text-in t₂ first (rw its-size (omega (arith, counted))) ∙ rw its-size its-bytes;
+            same = its-bytes;
           }

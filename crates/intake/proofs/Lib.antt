@@ -4,5 +4,4 @@ pub mod WithinLaws
 pub mod BringKidLaws
 pub mod BringTextLaws
 pub mod BringRowLaws
-pub mod SheetPlaces
 pub mod BringLaws

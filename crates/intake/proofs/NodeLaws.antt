@@ -19,7 +19,7 @@ use Rattle.layout.specs.Texts.{textIn}
 use Rattle.layout.specs.Nodes.{firstKid, kidIn, nodeIn, nodesOf}
 use Rattle.intake.specs.NodeReads.{nodeWord}
 use Rattle.layout.proofs.RowLaws.{cap-lim, length-rows, getD-rows, getD-past, length-between, getD-between}
-use Rattle.intake.proofs.TextLaws.{text-out}
+use Rattle.layout.proofs.Frames.{text-absent}
 
 -- ---- which numbers are those of nodes
 module _ (s : List ℕ) where
@@ -77,7 +77,7 @@ module _ (s : List ℕ) where
 
     pub text-none : length (nodesOf s) ≤ n → textIn s absent ≡ text (nodesOf s) n
     unfolding text nobody
-    text-none h = text-out s absent (omega arith) ∙ sym (ap (λ (x : Node). x .text) (node-out h))
+    text-none h = text-absent s ∙ sym (ap (λ (x : Node). x .text) (node-out h))
 
     -- ---- the kids
     kids-in : n < length (nodesOf s) → nodeAt (nodesOf s) n .kids ≡ rowsFrom (kidIn s) (firstKid s n) (firstKid s (n + 1))

@@ -8,32 +8,47 @@ use borrow.Author.Tests.{le-leb, lt-leb}
 use Rattle.words.specs.Runs.{run}
 use Rattle.words.specs.Words.{word}
 use Rattle.words.proofs.RunLaws.{length-run, getD-run, run-none}
-use Rattle.layout.specs.Layout.{Long, textsAt, textLimit}
-use Rattle.layout.specs.Texts.{textOf, textIn}
+use Rattle.layout.specs.Layout.{Long, textsPlace, textsAt, textLimit}
+use Rattle.layout.specs.Rows.{cap}
+use Rattle.layout.specs.Texts.{textsUsed, textOf, textIn}
+use Rattle.layout.proofs.RowLaws.{cap-le, cap-lim}
 use Rattle.intake.specs.TextReads.{Lies}
 
 -- ---- where it lies
-module _ (s : List ℕ) (k : ℕ) where
-  pub text-in : k + 4 + word s (textsAt + k) ≤ textLimit → textIn s k ≡ run s (textsAt + k + 4) (word s (textsAt + k))
-  unfolding textIn textOf
-  text-in h = rw (le-leb (k + 4 + word s (textsAt + k)) textLimit h)
+pub used-from : (s : List ℕ) (a b : ℕ) → a ≡ word s textsPlace → b ≡ cap a textLimit → b ≡ textsUsed s
+unfolding textsUsed
+used-from s a b p q = rw (q, p)
 
-  pub text-out : textLimit < k + 4 + word s (textsAt + k) → textIn s k ≡ []
+pub used-few : (s : List ℕ) → textsUsed s ≤ textLimit
+unfolding textsUsed
+used-few s = cap-lim (word s textsPlace) textLimit
+
+pub used-is : (s : List ℕ) (n : ℕ) → word s textsPlace ≡ n → n ≤ textLimit → textsUsed s ≡ n
+unfolding textsUsed
+used-is s n e h = rw e (cap-le n textLimit h)
+
+module _ (s : List ℕ) (k : ℕ) where
+  pub text-in : k + 4 + word s (textsAt + k) ≤ textsUsed s → textIn s k ≡ run s (textsAt + k + 4) (word s (textsAt + k))
   unfolding textIn textOf
-  text-out h = rw (lt-leb (k + 4 + word s (textsAt + k)) textLimit h)
+  text-in h = rw (le-leb (k + 4 + word s (textsAt + k)) (textsUsed s) h)
+
+  text-out : textsUsed s < k + 4 + word s (textsAt + k) → textIn s k ≡ []
+  unfolding textIn textOf
+  text-out h = rw (lt-leb (k + 4 + word s (textsAt + k)) (textsUsed s) h)
 
   nowhere : textIn s k ≡ [] → Lies s k 0 0
   nowhere e = record { inside = omega arith; short = omega arith; same = e ∙ sym (run-none s 0 0 0 (omega arith)) }
 
-  pub lies-past : 786428 < k → Lies s k 0 0
-  lies-past h = nowhere (text-out (omega arith))
+  module _ (used : ℕ) (u : used ≡ textsUsed s) where
+    pub lies-past : used < k + 4 → Lies s k 0 0
+    lies-past h = nowhere (text-out (omega arith))
 
-  module _ (n : ℕ) (e : n ≡ word s (textsAt + k)) (l : k ≤ 786428) where
-    pub lies-beyond : 786428 - k < n → Lies s k 0 0
-    lies-beyond h = nowhere (text-out (omega arith))
+    module _ (n : ℕ) (e : n ≡ word s (textsAt + k)) where
+      pub lies-beyond : used < k + 4 + n → Lies s k 0 0
+      lies-beyond h = nowhere (text-out (omega arith))
 
-    pub lies-there : Long s → n ≤ 786428 - k → Lies s k (3162240 + k + 4) n
-    lies-there long h = record { inside = omega arith; short = omega arith; same = rw e (text-in (omega arith)) }
+      pub lies-there : Long s → k + 4 + n ≤ used → Lies s k (3162240 + k + 4) n
+      lies-there long h = record { inside = omega (arith, used-few s); short = omega (arith, used-few s); same = rw e (text-in (omega arith)) }
 
 -- ---- what is read of it
 module _ {s : List ℕ} {k at n : ℕ} (x : Lies s k at n) where

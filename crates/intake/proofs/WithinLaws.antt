@@ -1,17 +1,20 @@
 -- Stores that differ between two places alone. Assumes nothing.
-use mathlib.Core.Path.{_≡_, refl, ap, _∙_}
+use mathlib.Core.Path.{_≡_, refl, sym, ap, _∙_}
 use mathlib.Core.Logic.{_⊎_, inl, inr, ⊎-elim}
 use mathlib.Core.List.{List, [], _∷_}
-use Prim.Native.Nat.{ℕ, zero, suc, _+_, _*_, _≤_, _<_, _^_}
+use Prim.Native.Nat.{ℕ, suc, _+_, _*_, _≤_}
 use native.Mathlib.Omega.{arith}
-use lib.ListN.{length, getD}
+use lib.ListN.{length, take, drop, length-drop}
+use lib.Seq.{take-all}
 use Rattle.words.specs.Runs.{run, splice}
 use Rattle.words.specs.Words.{word, number, setWord}
 use Rattle.words.proofs.RunLaws.{length-splice, run-splice-other}
-use Rattle.words.proofs.WordLaws.{length-setWord, word-setWord-same, run-setWord-other}
-use Rattle.layout.specs.Layout.{textsAt}
+use Rattle.words.proofs.WordLaws.{length-setWord, run-setWord-other}
+use Rattle.layout.specs.Layout.{storeBytes, textsPlace, sheetAt, textsAt}
 use Rattle.layout.specs.Rows.{setAll}
-use Rattle.layout.specs.Texts.{textOf, textIn}
+use Rattle.layout.specs.Changes.{Outside, Wrote}
+use Rattle.layout.specs.Regions.{bringing}
+use Rattle.layout.specs.Texts.{textsUsed, textOf, textIn}
 use Rattle.intake.specs.Bring.{Within}
 
 -- ---- what is written where
@@ -50,26 +53,24 @@ module _ {s t : List ℕ} {lo hi : ℕ} (w : Within s t lo hi) where
   pub word-after : (j : ℕ) → hi ≤ j → word t j ≡ word s j
   word-after j h = word-other j (inr h)
 
--- a text whose length and bytes are as they were
-pub text-same : (s t : List ℕ) (k : ℕ) → word t (textsAt + k) ≡ word s (textsAt + k)
+-- the bytes past what was written
+pub within-past : {s t : List ℕ} {lo hi : ℕ} → Within s t lo hi → (k : ℕ) → hi ≤ k → drop k t ≡ drop k s
+unfolding run
+within-past {s} {t} w k h =
+    let whole : (u : List ℕ) → length u ≡ length s → take (length s) (drop k u) ≡ drop k u = λ u e. take-all (length s) (drop k u) (rw (length-drop k u) (omega arith)) in
+    sym (whole t (w .long)) ∙ w .other k (length s) (inr h) ∙ whole s refl
+
+-- what bringing a sheet in may write, in one of its two ranges
+pub brings-used : {s t : List ℕ} → Within s t textsPlace (textsPlace + 4) → Wrote bringing s t
+unfolding bringing Outside
+brings-used w = record { size = w .long; other = λ j o. word-other w j (o .0) }
+
+pub brings-sheet : {s t : List ℕ} {lo hi : ℕ} → Within s t lo hi → sheetAt ≤ lo → hi ≤ storeBytes → Wrote bringing s t
+unfolding bringing Outside
+brings-sheet w l h = record { size = w .long; other = λ j o. word-other w j (⊎-elim (λ z. inl (omega arith)) (λ z. inr (omega arith)) (o .1 .0)) }
+
+-- a text whose length and bytes are as they were, with as many bytes in use
+pub text-same : (s t : List ℕ) (k : ℕ) → word t textsPlace ≡ word s textsPlace → word t (textsAt + k) ≡ word s (textsAt + k)
     → run t (textsAt + k + 4) (word s (textsAt + k)) ≡ run s (textsAt + k + 4) (word s (textsAt + k)) → textIn t k ≡ textIn s k
-unfolding textIn textOf
-text-same s t k e f = rw (e, f)
-
-pub text-after : {s t : List ℕ} {lo hi : ℕ} → Within s t lo hi → (k : ℕ) → hi ≤ textsAt + k → textIn t k ≡ textIn s k
-text-after {s} {t} w k h = text-same s t k (word-after w (textsAt + k) h) (w .other (textsAt + k + 4) (word s (textsAt + k)) (inr (omega arith)))
-
--- ---- words one after the other
-abbrev pub Small : List ℕ → Type 0
-Small [] = Unit {0}
-Small (w ∷ ws) = (w < 2 ^ 32) × Small ws
-
-pub all-is : (s : List ℕ) (at : ℕ) (ws : List ℕ) → Small ws → at + 4 * length ws ≤ length s → (i : ℕ) → i < length ws → word (setAll s at ws) (at + 4 * i) ≡ getD ws i 0
-unfolding setAll
-all-is s at [] b l i h = absurd (omega arith)
-all-is s at (w ∷ ws) b l zero h =
-    let e : at + 4 * 0 ≡ at = omega arith in
-    rw e (word-before (within-all (setWord s at w) (at + 4) ws) at (omega arith) ∙ word-setWord-same s at w (omega arith) (b .0))
-all-is s at (w ∷ ws) b l (suc i) h =
-    let e : at + 4 * suc i ≡ at + 4 + 4 * i = omega arith in
-    rw e (all-is (setWord s at w) (at + 4) ws (b .1) (omega (arith, length-setWord s at w)) i (omega arith))
+unfolding textIn textOf textsUsed
+text-same s t k u e f = rw (u, e, f)

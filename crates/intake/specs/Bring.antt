@@ -5,19 +5,21 @@ use mathlib.Core.Bool.{Bool, true}
 use mathlib.Core.List.{List, [], _∷_, _++_}
 use mathlib.Core.Option.{Option, some}
 use Prim.Native.Nat.{ℕ, _+_, _-_, _*_, _<_, _≤_}
-use lib.ListN.{length}
+use lib.ListN.{length, drop}
 use Rattle.words.specs.Runs.{run}
 use Rattle.words.specs.Words.{word}
 use Rattle.spec.specs.Basics.{Text, NodeId}
 use Rattle.spec.specs.Tree.{kidPlaces}
+use Rattle.spec.proofs.TextRoom.{textBytes}
 use Rattle.spec.specs.Sheet.{Node, Got, got, bad, kidList, allBelow, nodesFrom, nodeList, accepted, readSheet}
 use Rattle.sheet.specs.Kids.{kidsOf}
 use Rattle.sheet.specs.Texts.{decoded}
 use Rattle.sheet.specs.Nodes.{nodeOf}
 use Rattle.sheet.specs.declared.nodes.Node as row
-use Rattle.layout.specs.Layout.{storeBytes, textsPlace, sheetAt, nodesAt, kidsAt, textsAt, nodeLimit, kidLimit}
+use Rattle.layout.specs.Layout.{storeBytes, textsPlace, nodesAt, kidsAt, textsAt, nodeLimit, kidLimit}
 use Rattle.layout.specs.Rows.{rowsTo, rowsFrom, marked}
-use Rattle.layout.specs.Texts.{textIn}
+use Rattle.layout.specs.Changes.{Wrote}
+use Rattle.layout.specs.Regions.{bringing}
 use Rattle.layout.specs.Nodes.{kidIn, nodeIn, nodesOf}
 use Rattle.intake.specs.declared.bring.Room.{Room}
 use Rattle.intake.specs.declared.bring.Room.the-variants as room
@@ -31,7 +33,7 @@ use Rattle.intake.specs.declared.bring.Step.the-variants as step
 abbrev pub sheetTexts : ℕ
 sheetTexts = 524288
 
--- t is s, written over from lo to hi alone
+-- t is s, written over from lo to hi alone: what `Wrote` says of words, of runs of any length, for the texts
 pub record Within (s t : List ℕ) (lo hi : ℕ) : Type 0 where
   pub long : length t ≡ length s
   pub other : (j n : ℕ) → (j + n ≤ lo) ⊎ (hi ≤ j) → run t j n ≡ run s j n
@@ -82,7 +84,7 @@ pub record TextBrought (s : List ℕ) (start end : ℕ) (t u : List ℕ) (first 
   pub room : last ≤ sheetTexts
   pub wrote : Within t u (textsAt + first) (textsAt + last)
   pub size : word u (textsAt + first) ≡ length (textFrom s start end)
-  pub same : textIn u first ≡ textFrom s start end
+  pub same : run u (textsAt + first + 4) (length (textFrom s start end)) ≡ textFrom s start end
 
 pub record TextOver (s : List ℕ) (start end : ℕ) (t u : List ℕ) (first : ℕ) : Type 0 where
   pub over : sheetTexts < first + 4 + length (textFrom s start end)
@@ -98,8 +100,9 @@ pub record Settled (t : List ℕ) (kids texts k : ℕ) : Type 0 where
   pub kids-end : word t (nodesAt + 24 * (k + 1)) ≤ kids
   pub text-end : word t (nodesAt + 24 * k + 20) + 4 + word t (textsAt + word t (nodesAt + 24 * k + 20)) ≤ texts
 
--- so many rows are written, and the next one's kids and text will begin at these places
+-- so many rows are written, and the next one's kids and text will begin at these places; meanwhile all bytes that the texts may take are in use
 pub record Rows (t : List ℕ) (i kids texts : ℕ) : Type 0 where
+  pub in-use : word t textsPlace ≡ sheetTexts
   pub here : word t (nodesAt + 24 * i) ≡ kids
   pub kid-room : kids ≤ kidLimit
   pub text-room : texts ≤ sheetTexts
@@ -150,6 +153,7 @@ pub record Bringing (s : List ℕ) (count i : ℕ) (f : Front) (t : List ℕ) : 
   pub inside : f .at ≤ length s
   pub same : nodeList s 0 ≡ ahead (rowsTo (nodeIn t) i) (nodesFrom (count - i) count i s (f .at))
   pub total : kidPlaces (rowsTo (nodeIn t) i) ≡ f .kids
+  pub bytes : textBytes (rowsTo (nodeIn t) i) ≡ f .texts
   pub half : 2 * f .texts ≤ f .at
   pub rows : Rows t i (f .kids) (f .texts)
 
@@ -178,22 +182,26 @@ pub record Counted (s : List ℕ) (count at : ℕ) : Type 0 where
 
 pub record AllIn (s : List ℕ) (count texts : ℕ) (t u : List ℕ) : Type 0 where
   pub end : ℕ
+  pub kids : ℕ
   pub same : nodeList s 0 ≡ got (rowsTo (nodeIn u) count) end
-  pub room : texts ≤ sheetTexts
+  pub bytes : textBytes (rowsTo (nodeIn u) count) ≡ texts
+  pub rows : Rows u count kids texts
   pub wrote : Within t u nodesAt storeBytes
 
 abbrev pub AllBrought : List ℕ → ℕ → List ℕ → List ℕ → Room → Type 0
 AllBrought s count t u (room.Upto texts) = AllIn s count texts t u
 AllBrought s count t u room.Full = Stopped s t u
 
--- the store says the nodes, and how many bytes of texts are in use
+-- the store says the nodes; the bytes of texts in use are those of their texts, each with its length, and every one lies within them
 pub record Holds (ns : List Node) (t : List ℕ) (r : Bool) : Type 0 where
   pub told : r ≡ true
   pub nodes : nodesOf t ≡ ns
+  pub used : word t textsPlace ≡ textBytes ns
   pub texts : word t textsPlace ≤ sheetTexts
+  pub fits : (n : ℕ) → n < length ns → word t (nodesAt + 24 * n + 20) + 4 + word t (textsAt + word t (nodesAt + 24 * n + 20)) ≤ word t textsPlace
 
 -- What bringing a sheet's nodes in does to a store, whatever the sheet; and that it brings all of them in, where the sheet is accepted and there is room for the kids.
 pub record Brought (s t u : List ℕ) (r : Bool) : Type 0 where
-  pub long : length u ≡ length t
-  pub below : (j : ℕ) → (j + 4 ≤ textsPlace) ⊎ ((textsPlace + 4 ≤ j) × (j + 4 ≤ sheetAt)) → word u j ≡ word t j
+  pub wrote : Wrote bringing t u
+  pub past : drop storeBytes u ≡ drop storeBytes t
   pub holds : (ns : List Node) → readSheet s ≡ accepted ns → kidPlaces ns ≤ kidLimit → Holds ns u r

@@ -16,6 +16,7 @@ use crate::nodes::ROW;
 use crate::nodes::TEXT;
 use crate::nodes::TO;
 use crate::texts::TEXTS_AT;
+use crate::texts::TEXTS_PLACE;
 use sheet::Fault;
 use sheet::KidStep;
 use sheet::Node;
@@ -25,9 +26,6 @@ use sheet::Position;
 use sheet::decode_text;
 use sheet::next_kid;
 use words::put32;
-
-// Where the bytes of texts in use are counted.
-const TEXTS_PLACE: usize = 28;
 
 // A byte of text takes two digits in the sheet, and the lines of a node have more than eight bytes besides. So the
 // texts of a sheet of 1,048,576 bytes, with the four bytes of each one's length, take at most half of that.
@@ -190,11 +188,14 @@ fn bring_all(sheet: &[u8], nodes: u32, first: Front, store: &mut [u8]) -> Room
     Room::Upto(front.texts)
 }
 
-// So many nodes, from `at` on. They are counted last, once all of them are there.
+// So many nodes, from `at` on. They are counted last, once all of them are there. The bytes of texts in use are set
+// twice: a text past them reads as empty, so first all those that a sheet's texts may take are in use, that each node
+// has its text as soon as it is there, and at the end those that the texts took.
 fn bring_counted(sheet: &[u8], nodes: u32, at: usize, store: &mut [u8]) -> bool
     requires { ⌜ Long (now store) × Counted (now sheet) nodes at ⌝ }
     ensures { λ r. ⌜ Brought (now (sheet .entry)) (now (store .entry)) (now (store .exit)) r ⌝ }
 {
+    put32(store, TEXTS_PLACE, SHEET_TEXTS as u32);
     put32(store, NODES_AT, 0);
     let first = Front {
         at,

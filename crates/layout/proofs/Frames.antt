@@ -16,10 +16,10 @@ use Rattle.spec.specs.Module.{Module}
 use Rattle.spec.specs.Lower.{moduleOf}
 use Rattle.module.specs.Ids.{pointerOf}
 use Rattle.module.specs.declared.pointer.Pointer as code-pointer
-use Rattle.layout.specs.Layout.{absent, sheetAt, textsAt, textLimit, exprsAt, exprPointersAt, itemsAt, itemLimit, namesAt, namePointersAt, diagnosticsAt, lostAt, usesAt, scopesAt, enteredAt, firstsAt, referencesAt, waitingAt, setsAt, entriesAt, runAt, exprLimit, nameLimit, diagnosticLimit, scopeLimit, referenceLimit, waitingLimit, setLimit, entryLimit, exprCount, nameCount, diagnosticCount, lostCount, entryPlace, scopeCount, waitingCount, setCount, entryCount}
+use Rattle.layout.specs.Layout.{absent, textsPlace, sheetAt, textsAt, textLimit, exprsAt, exprPointersAt, itemsAt, itemLimit, namesAt, namePointersAt, diagnosticsAt, lostAt, usesAt, scopesAt, enteredAt, firstsAt, referencesAt, waitingAt, setsAt, entriesAt, runAt, exprLimit, nameLimit, diagnosticLimit, scopeLimit, referenceLimit, waitingLimit, setLimit, entryLimit, exprCount, nameCount, diagnosticCount, lostCount, entryPlace, scopeCount, waitingCount, setCount, entryCount}
 use Rattle.layout.specs.Rows.{cap, rowsTo, rowsFrom}
 use Rattle.layout.specs.Changes.{Range, Outside, Wrote, Still}
-use Rattle.layout.specs.Texts.{textOf, textIn}
+use Rattle.layout.specs.Texts.{textsUsed, textOf, textIn}
 use Rattle.layout.specs.Exprs.{itemOf, itemAt, itemIn, exprOf, pointerAt, firstItem, itemsOf, sortOf, madeIn}
 use Rattle.layout.specs.States.{nameIn, diagnosticIn, setIn, entryOf, entryIn, exprsOf, namesOf, diagnosticsOf, lostOf, setsOf, entriesOf, stateOf, moduleIn, waitingOf, orderOf}
 use Rattle.layout.proofs.RowLaws.{rows-same, between-same, cap-lim}
@@ -68,13 +68,13 @@ unfolding word
 word-still s t at e h = ap number (run-still s t at 4 e h)
 
 pub text-still : (s t : List ℕ) (k : ℕ) → Still s t → textIn t k ≡ textIn s k
-unfolding textIn textOf
-text-still s t k e = rw (word-still s t (textsAt + k) e (omega arith), run-still s t (textsAt + k + 4) (word s (textsAt + k)) e (omega arith))
+unfolding textIn textOf textsUsed
+text-still s t k e = rw (word-still s t (textsAt + k) e (omega arith), run-still s t (textsAt + k + 4) (word s (textsAt + k)) e (omega arith), e .used)
 
 -- the mark is the empty text, whatever the bytes
 pub text-absent : (s : List ℕ) → textIn s absent ≡ []
-unfolding textIn textOf
-text-absent s = rw (lt-leb (absent + 4 + word s (textsAt + absent)) textLimit (omega arith))
+unfolding textIn textOf textsUsed
+text-absent s = rw (lt-leb (absent + 4 + word s (textsAt + absent)) (cap (word s textsPlace) textLimit) (omega (arith, cap-lim (word s textsPlace) textLimit)))
 
 -- ---- rows
 pub pointer-same : (s t : List ℕ) (at : ℕ) → Same s t at (at + 12) → pointerAt t at ≡ pointerAt s at

@@ -1,3 +1,5 @@
 pub mod RowLaws
 pub mod Frames
+pub mod TextLaws
 pub mod WriteLaws
+pub mod Bytes

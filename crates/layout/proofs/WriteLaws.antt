@@ -1,17 +1,20 @@
 -- What writing words and runs of bytes does to the words of a store. Assumes nothing.
 use mathlib.Core.Path.{_≡_, refl, sym, ap, _∙_}
 use mathlib.Core.Logic.{_⊎_, inl, inr}
+use mathlib.Core.Bool.{Bool, true, false}
 use mathlib.Core.List.{List, [], _∷_}
 use Prim.Native.Nat.{ℕ, zero, suc, _+_, _*_, _≤_, _<_, _^_}
 use native.Mathlib.Omega.{arith}
 use lib.ListN.{length, getD, drop, set}
 use lib.Seq.{sets, drop-set-lt}
+use lib.Dec.{ltb}
+use borrow.Author.Tests.{ltb-true, ltb-false}
 use Rattle.words.specs.Runs.{run, splice}
 use Rattle.words.specs.Words.{word, setWord, bytesOf}
 use Rattle.words.proofs.RunLaws.{length-splice, length-run}
 use Rattle.words.proofs.WordLaws.{word-lt, length-bytesOf, length-setWord, word-setWord-same, word-setWord-other, word-splice-other, word-splice-within, word-run}
 use Rattle.layout.specs.Rows.{setAll}
-use Rattle.layout.specs.Layout.{sheetAt}
+use Rattle.layout.specs.Layout.{textsPlace, sheetAt}
 use Rattle.layout.specs.Changes.{Range, Outside, Wrote, Still}
 
 -- ---- bytes past a write
@@ -19,16 +22,37 @@ drop-sets : (xs s : List ℕ) (k at : ℕ) → at + length xs ≤ k → drop k (
 drop-sets [] s k at h = refl
 drop-sets (x ∷ xs) s k at h = drop-sets xs (set s at x) k (suc at) (omega arith) ∙ drop-set-lt k s at x (omega arith)
 
-pub still-splice : (s : List ℕ) (at : ℕ) (xs : List ℕ) → at + length xs ≤ sheetAt → Still s (splice s at xs)
+pub drop-splice : (s : List ℕ) (at : ℕ) (xs : List ℕ) (k : ℕ) → at + length xs ≤ k → drop k (splice s at xs) ≡ drop k s
 unfolding splice
-still-splice s at xs h = record { same = drop-sets xs s sheetAt at h }
+drop-splice s at xs k h = drop-sets xs s k at h
 
-pub still-setWord : (s : List ℕ) (at v : ℕ) → at + 4 ≤ sheetAt → Still s (setWord s at v)
+pub drop-setWord : (s : List ℕ) (at v k : ℕ) → at + 4 ≤ k → drop k (setWord s at v) ≡ drop k s
 unfolding setWord
-still-setWord s at v h = still-splice s at (bytesOf 4 v) (rw (length-bytesOf 4 v) h)
+drop-setWord s at v k h = drop-splice s at (bytesOf 4 v) k (rw (length-bytesOf 4 v) h)
+
+-- n bytes from a place on are none of the four that say how many bytes of texts are in use
+abbrev pub Spares : ℕ → ℕ → Type 0
+Spares at n = textsPlace < at + n → textsPlace + 4 ≤ at
+
+spared : (at n : ℕ) → Spares at n → (textsPlace + 4 ≤ at) ⊎ (at + n ≤ textsPlace)
+spared at n h = by (ltb textsPlace (at + n)) refl
+  where
+    by : (b : Bool) → ltb textsPlace (at + n) ≡ b → (textsPlace + 4 ≤ at) ⊎ (at + n ≤ textsPlace)
+    by true e = inl (h (ltb-true textsPlace (at + n) e))
+    by false e = inr (ltb-false textsPlace (at + n) e)
+
+pub still-splice : (s : List ℕ) (at : ℕ) (xs : List ℕ) → at + length xs ≤ sheetAt → Spares at (length xs) → Still s (splice s at xs)
+still-splice s at xs h apart = record { same = drop-splice s at xs sheetAt h; used = word-splice-other s at xs textsPlace (spared at (length xs) apart) }
+
+pub still-setWord : (s : List ℕ) (at v : ℕ) → at + 4 ≤ sheetAt → Spares at 4 → Still s (setWord s at v)
+unfolding setWord
+still-setWord s at v h apart = still-splice s at (bytesOf 4 v) (rw (length-bytesOf 4 v) h) (rw (length-bytesOf 4 v) apart)
+
+pub still-none : (s : List ℕ) → Still s s
+still-none s = record { same = refl; used = refl }
 
 pub still-then : {s u t : List ℕ} → Still s u → Still u t → Still s t
-still-then x y = record { same = y .same ∙ x .same }
+still-then x y = record { same = y .same ∙ x .same; used = y .used ∙ x .used }
 
 -- ---- words one after the other
 abbrev pub Small : List ℕ → Type 0
@@ -40,10 +64,16 @@ unfolding setAll
 length-all s at [] = refl
 length-all s at (w ∷ ws) = length-all (setWord s at w) (at + 4) ws ∙ length-setWord s at w
 
-pub still-all : (s : List ℕ) (at : ℕ) (ws : List ℕ) → at + 4 * length ws ≤ sheetAt → Still s (setAll s at ws)
+pub drop-all : (s : List ℕ) (at : ℕ) (ws : List ℕ) (k : ℕ) → at + 4 * length ws ≤ k → drop k (setAll s at ws) ≡ drop k s
 unfolding setAll
-still-all s at [] h = record { same = refl }
-still-all s at (w ∷ ws) h = still-then (still-setWord s at w (omega arith)) (still-all (setWord s at w) (at + 4) ws (omega arith))
+drop-all s at [] k h = refl
+drop-all s at (w ∷ ws) k h = drop-all (setWord s at w) (at + 4) ws k (omega arith) ∙ drop-setWord s at w k (omega arith)
+
+pub still-all : (s : List ℕ) (at : ℕ) (ws : List ℕ) → at + 4 * length ws ≤ sheetAt → Spares at (4 * length ws) → Still s (setAll s at ws)
+unfolding setAll
+still-all s at [] h apart = still-none s
+still-all s at (w ∷ ws) h apart =
+    still-then (still-setWord s at w (omega arith) (λ z. apart (omega arith))) (still-all (setWord s at w) (at + 4) ws (omega arith) (λ z. let o = apart (omega arith) in omega arith))
 
 pub all-other : (s : List ℕ) (at : ℕ) (ws : List ℕ) (j : ℕ) → (j + 4 ≤ at) ⊎ (at + 4 * length ws ≤ j) → word (setAll s at ws) j ≡ word s j
 unfolding setAll

@@ -6,6 +6,10 @@ use Rattle.layout.specs.Changes.{Range}
 unfoldable pub writing : List Range
 writing = (0, 20) ∷ (32, 48) ∷ (64, 2310228) ∷ (2588772, 2998372) ∷ []
 
+-- bringing a sheet in: the bytes of texts in use; the nodes, their kids and the texts
+unfoldable pub bringing : List Range
+bringing = (28, 32) ∷ (2998372, 3948672) ∷ []
+
 -- kept answers, beside the scope of each expression
 abbrev pub answering : List Range
 answering = (2310228, 2441300) ∷ []

@@ -5,6 +5,7 @@
 // This one has the decoding of any bytes (specs/), what a write leaves as it was (proofs/), and the
 // writes that the others share.
 mod rows;
+mod texts;
 
 pub use rows::at_most;
 pub use rows::counter;
@@ -14,3 +15,4 @@ pub use rows::put_pointer;
 pub use rows::put_three;
 pub use rows::put_two;
 pub use rows::wide;
+pub use texts::text_held;
