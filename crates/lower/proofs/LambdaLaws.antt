@@ -1,7 +1,8 @@
 -- Lambdas: the parameter's name, the fields of the pattern, which wait as items, and the body. Assumes nothing.
-use mathlib.Core.Path.{_≡_, refl}
+use mathlib.Core.Path.{_≡_, refl, ap, _∙_}
+use mathlib.Core.Logic.{_⊎_, inl, inr}
 use mathlib.Core.Bool.{Bool, true, false}
-use mathlib.Core.List.{List, _++_, map}
+use mathlib.Core.List.{List, [], _++_, map}
 use mathlib.Core.Option.{Option, none, some}
 use Prim.Native.Nat.{ℕ, _+_}
 use native.Mathlib.Omega.{arith}
@@ -21,6 +22,7 @@ use Rattle.module.specs.declared.ids.ExprId as code-expr
 use Rattle.module.specs.declared.ids.MaybeNode.{MaybeNode}
 use Rattle.module.specs.declared.ids.MaybeExpr.{MaybeExpr}
 use Rattle.module.specs.declared.ids.MaybeName.{MaybeName}
+use Rattle.module.specs.declared.ids.MaybeName.the-variants as maybe-name
 use Rattle.module.specs.declared.kinds.NameKind.the-variants as name-kind
 use Rattle.module.specs.declared.expr.Pattern.{Pattern}
 use Rattle.module.specs.declared.expr.Pattern.the-variants.{Absent, Closed, Ellipsis}
@@ -30,11 +32,13 @@ use Rattle.layout.specs.Exprs.{pattern}
 use Rattle.layout.specs.Nodes.{nodesOf}
 use Rattle.layout.specs.States.{stateOf, waitingOf}
 use Rattle.layout.specs.Texts.{textIn}
-use Rattle.store.specs.Codes.{exprWith, itemWith, exprMade, patternWith}
-use Rattle.store.specs.Work.{Did, pushItem}
+use Rattle.soundness.specs.Sound.{tagFits}
+use Rattle.store.specs.Codes.{exprWith, itemWith, lambdaSort, sortFor, exprMade, patternWith}
+use Rattle.store.specs.Work.{Did, suits, pushItem}
 use Rattle.keys.proofs.ItemLaws.{items-after-are}
 use Rattle.merge.specs.Room.{price, _⊕_, covers, nothing, oneExpr, oneItem, ownNode}
 use Rattle.merge.specs.Lowers.{Lowers, Lowering, Collecting}
+use Rattle.merge.proofs.Allocs.{none-suit}
 use Rattle.merge.proofs.Steps.{gave, as-step, fits, all-lower}
 use Rattle.lower.specs.Sizes.{sized, below, sizes, place}
 use Rattle.lower.specs.Reads.{HasPlaces, HasParam, identOf, ownerOf, ellipsisOf, patternOf, attrsFrom}
@@ -43,7 +47,7 @@ use Rattle.lower.specs.declared.reads.Places.{Places}
 use Rattle.lower.specs.declared.reads.Param.{Param}
 use Rattle.lower.proofs.SizeLaws.{own-and-below, heft-place, three-below, param-size}
 use Rattle.lower.proofs.TurnLaws.{next}
-use Rattle.lower.proofs.WaitLaws.{fields-back, pushed-giving, taken-from, all-collect}
+use Rattle.lower.proofs.WaitLaws.{fields-back, fields-suit, pushed-giving, taken-from, all-collect}
 use Rattle.lower.proofs.ExprLaws.{Opt, There}
 use Rattle.lower.proofs.ListedLaws.{Allocated}
 
@@ -95,15 +99,54 @@ module _ (nodes : List Node) (lower : NodeId → Low ExprId) (merge : SetId → 
       go true = refl
       go false = rw (items-after-are nodes n)
 
+-- where there is no pattern there is no node that owns fields
+no-owner : (nodes : List Node) (p : Option NodeId) → none ≡ ellipsisOf nodes p → ownerOf nodes p ≡ none
+unfolding ellipsisOf ownerOf
+no-owner nodes none e = refl
+no-owner nodes (some n) e = go (eqb (kind nodes n) 28) e
+  where
+    go : (b : Bool) → none ≡ (if b then none else some (eqb (flag nodes n) 1)) → (if b then none else some n) ≡ none
+    go true h = refl
+    go false h = let z : _≡_ {A = ℕ} 0 1 = cc in absurd (omega arith)
+
 -- the fields that the code leaves waiting, read from the store u on
 abbrev fieldsFrom : ℕ → List Node → MaybeNode → List ℕ → List (Option NameId × Option ExprId)
 fieldsFrom depth nodes owner u = each (lowerField nodes (lowerAt depth nodes) (mergeAt depth nodes)) (attrsFrom nodes 1 (nodeOf owner)) (stateOf u) .0
+
+no-fields : (depth : ℕ) (nodes : List Node) (owner : MaybeNode) (u : List ℕ) → nodeOf owner ≡ none → fieldsFrom depth nodes owner u ≡ []
+unfolding attrsFrom each give
+no-fields depth nodes owner u e = ap (λ (o : Option NodeId). each (lowerField nodes (lowerAt depth nodes) (mergeAt depth nodes)) (attrsFrom nodes 1 o) (stateOf u) .0) e
+
+absent-none : (q : Pattern) → Absent ≡ q → none ≡ patternOf q
+unfolding patternOf
+absent-none q e = rw (← e)
+
+-- a pattern, closed or with an ellipsis, may have fields
+with-fields : (q : Pattern) (m : MaybeName) → (q ≡ Closed) ⊎ (q ≡ Ellipsis) → (xs : List (Option NameId × Option ExprId)) → suits (lambdaSort m q) (map fieldItem xs) ≡ true
+unfolding lambdaSort tagFits
+with-fields q maybe-name.Absent (inl e) xs = rw e (fields-suit 11 xs refl)
+with-fields q (maybe-name.Name x) (inl e) xs = rw e (fields-suit 12 xs refl)
+with-fields q maybe-name.Absent (inr e) xs = rw e (fields-suit 13 xs refl)
+with-fields q (maybe-name.Name x) (inr e) xs = rw e (fields-suit 14 xs refl)
 
 module _ (depth : ℕ) (s : List ℕ) (p : Option NodeId) (x : Param) (g : HasParam (nodesOf s) p x) where
   as-param : (st : State) → _≡_ {A = (Option NameId × Option Pat) × State}
       (paramAs (nodesOf s) (lowerAt depth (nodesOf s)) (mergeAt depth (nodesOf s)) (nodeOf (x .ident)) (nodeOf (x .owner)) (patternOf (x .pattern)) st)
       (lowerParam (nodesOf s) (lowerAt depth (nodesOf s)) (mergeAt depth (nodesOf s)) p st)
   as-param st = rw (g .ident, g .owner, g .pattern) (param-as (nodesOf s) (lowerAt depth (nodesOf s)) (mergeAt depth (nodesOf s)) p st)
+
+  -- a Lambda may have the fields of its pattern, and without one there are none
+  param-suits : (name : MaybeName) (body : code-expr.ExprId) (u : List ℕ) → suits (sortFor (Lambda name (x .pattern) body)) (map fieldItem (fieldsFrom depth (nodesOf s) (x .owner) u)) ≡ true
+  unfolding sortFor
+  param-suits name body u = go (x .pattern) refl name
+    where
+      none-there : Absent ≡ x .pattern → fieldsFrom depth (nodesOf s) (x .owner) u ≡ []
+      none-there e = no-fields depth (nodesOf s) (x .owner) u (g .owner ∙ no-owner (nodesOf s) p (absent-none (x .pattern) e ∙ g .pattern))
+
+      go : (q : Pattern) → q ≡ x .pattern → (m : MaybeName) → suits (lambdaSort m q) (map fieldItem (fieldsFrom depth (nodesOf s) (x .owner) u)) ≡ true
+      go Absent e m = rw (none-there e) (none-suit (lambdaSort m Absent))
+      go Closed e m = with-fields Closed m (inl refl) (fieldsFrom depth (nodesOf s) (x .owner) u)
+      go Ellipsis e m = with-fields Ellipsis m (inr refl) (fieldsFrom depth (nodesOf s) (x .owner) u)
 
   param-lowers : (name : MaybeName) {u v : List ℕ} → Named depth spec.Param (x .ident) s (nameOf name) u → Fields depth (x .owner) u v
       → Lowers (nodesOf s) (waitingOf s) (waitingOf s ++ map fieldItem (fieldsFrom depth (nodesOf s) (x .owner) u)) 0
@@ -125,4 +168,4 @@ module _ (depth n base : ℕ) (at : Places) {s u v w t : List ℕ} {r : ℕ} whe
       all-lower
       (rw (← h .first, ← h .second, ← h .pointed)
       (fits 0 (λ z. omega (arith, three-below z h, param-size z g, heft-place (nodesOf s) (nodeOf (at .second)))) refl
-      (next _ (param-lowers depth s (nodeOf (at .first)) x g name a fs) (next _ (y .at _ _) (taken-from s (Lambda name (x .pattern) body) (pointerOf (at .pointer)) _ b d)))))
+      (next _ (param-lowers depth s (nodeOf (at .first)) x g name a fs) (next _ (y .at _ _) (taken-from s (Lambda name (x .pattern) body) (pointerOf (at .pointer)) _ (param-suits depth s (nodeOf (at .first)) x g name body u) b d)))))

@@ -31,8 +31,8 @@ use Rattle.module.specs.declared.literal.Literal.the-variants as literals
 use Rattle.layout.specs.Nodes.{nodesOf}
 use Rattle.layout.specs.States.{stateOf, waitingOf}
 use Rattle.layout.specs.Texts.{textIn, maybeText}
-use Rattle.store.specs.Codes.{exprWith, ValidExpr, exprMade, holeMade}
-use Rattle.store.specs.Work.{Did, takeRow, takeLone, putName, nameWith}
+use Rattle.store.specs.Codes.{exprWith, ValidExpr, sortFor, exprMade, holeMade}
+use Rattle.store.specs.Work.{Did, Takes, takeLone, putName, nameWith}
 use Rattle.keys.specs.AstUtils.{identName}
 use Rattle.keys.specs.Literals.{literalHeld, allocLiteral, Held}
 use Rattle.module.specs.declared.ids.MaybeText.{MaybeText}
@@ -50,10 +50,10 @@ use Rattle.lower.specs.Sizes.{sized, place}
 use Rattle.lower.specs.Parts.{lowerAt, mergeAt, formOf, IsForm}
 
 -- ---- an expression without items
-pub lone-taken : (s : List ℕ) (e : Expr) (p : Pointer) (base r : ℕ) (t : List ℕ) → base ≡ length (waitingOf s) → Did (takeRow (exprMade s e p) base) s r t
+pub lone-taken : (s : List ℕ) (e : Expr) (p : Pointer) (base r : ℕ) (t : List ℕ) → base ≡ length (waitingOf s) → Takes (sortFor e) (exprMade s e p) base s r t
     → Lowering 0 (λ _. 0) oneExpr (λ _. allocExpr (exprWith (textIn s) e []) p) s r t
 unfolding allocExpr exprMade
-lone-taken s e p base r t b d = record { at = λ nodes w. taken-lone (exprMade s e p) b d }
+lone-taken s e p base r t b d = record { at = λ nodes w. taken-lone (sortFor e) (exprMade s e p) b d }
 
 -- "Missing without a pointer"
 pub hole-taken : {s : List ℕ} {r : ℕ} {t : List ℕ} → Did (takeLone holeMade) s r t → Lowering 0 (λ _. 0) oneExpr (λ _. allocMissing) s r t

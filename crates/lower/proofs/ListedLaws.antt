@@ -7,7 +7,7 @@ use native.Mathlib.Omega.{arith}
 use lib.ListN.{length}
 use lib.Dec.{eqb}
 use borrow.Author.Tests.{eq-eqb, ne-eqb}
-use Rattle.spec.specs.Basics.{NodeId}
+use Rattle.spec.specs.Basics.{NodeId, ExprId}
 use Rattle.spec.specs.Keys.{kind, flag, text, kid, pointer, items, getStrLiteral}
 use Rattle.spec.specs.Module.{Pointer, literal, string, literalPart, interpol}
 use Rattle.spec.specs.Steps.{give, when, each}
@@ -19,6 +19,7 @@ use Rattle.module.specs.declared.ids.ExprId as code-expr
 use Rattle.module.specs.declared.ids.TextId as code-text
 use Rattle.module.specs.declared.ids.MaybeNode.{MaybeNode}
 use Rattle.module.specs.declared.ids.MaybeExpr.{MaybeExpr}
+use Rattle.module.specs.declared.ids.MaybeExpr.the-variants as maybe-expr
 use Rattle.module.specs.declared.expr.Expr as code
 use Rattle.module.specs.declared.expr.Expr.the-variants.{Literal, Select, HasAttr, StringInterpolation, PathInterpolation}
 use Rattle.module.specs.declared.expr.Item.the-variants as code-item
@@ -27,8 +28,9 @@ use Rattle.layout.specs.Exprs.{child}
 use Rattle.layout.specs.Nodes.{nodesOf}
 use Rattle.layout.specs.States.{stateOf, waitingOf}
 use Rattle.layout.specs.Texts.{textIn, maybeText}
-use Rattle.store.specs.Codes.{exprWith, itemWith, exprMade}
-use Rattle.store.specs.Work.{Did, takeRow, pushItem}
+use Rattle.soundness.specs.Sound.{tagFits}
+use Rattle.store.specs.Codes.{exprWith, itemWith, selectSort, sortFor, exprMade}
+use Rattle.store.specs.Work.{Did, Takes, suits, pushItem}
 use Rattle.keys.specs.AstUtils.{Interpolated}
 use Rattle.module.specs.declared.ids.MaybeText.{MaybeText}
 use Rattle.module.specs.declared.ids.MaybeText.the-variants as maybe-text
@@ -42,13 +44,19 @@ use Rattle.lower.specs.Parts.{lowerAt, mergeAt, partItem, one}
 use Rattle.lower.specs.declared.reads.Places.{Places}
 use Rattle.lower.proofs.SizeLaws.{own-and-below, heft-place, kid-below, three-below}
 use Rattle.lower.proofs.TurnLaws.{next}
-use Rattle.lower.proofs.WaitLaws.{children-back, parts-back, pushed-giving, taken-from, all-collect}
+use Rattle.lower.proofs.WaitLaws.{children-back, parts-back, children-suit, parts-suit, pushed-giving, taken-from, all-collect}
 use Rattle.lower.proofs.ExprLaws.{Opt, There, Lone}
 
 -- ---- the contracts that the laws are about
 -- an expression with the items that wait from `base` on
 abbrev pub Allocated : code.Expr → Pointer → ℕ → List ℕ → ℕ → List ℕ → Type 0
-Allocated e p base s r t = Did (takeRow (exprMade s e p) base) s r t
+Allocated e p base s r t = Takes (sortFor e) (exprMade s e p) base s r t
+
+-- a Select may have attributes, with a default and without
+select-suits : (set : code-expr.ExprId) (d : MaybeExpr) (es : List ExprId) → suits (sortFor (Select set d)) (map child es) ≡ true
+unfolding sortFor selectSort tagFits
+select-suits set maybe-expr.Absent es = children-suit 22 es refl
+select-suits set (maybe-expr.Expr d) es = children-suit 23 es refl
 
 abbrev pub Attrpath : ℕ → MaybeNode → List ℕ → List ℕ → Type 0
 Attrpath depth p s t = Collecting 0 (λ nodes. place nodes (nodeOf p)) nothing (map child) (λ nodes. lowerAttrpathOpt nodes (lowerAt depth nodes) (mergeAt depth nodes) (nodeOf p)) s t
@@ -66,17 +74,17 @@ module _ (depth n base : ℕ) (at : Places) {s u v t : List ℕ} {r : ℕ} (b : 
       all-lower
       (rw (← h .first, ← h .second, ← h .third, ← h .pointed)
       (fits 0 (λ w. omega (arith, three-below w h, heft-place (nodesOf s) (nodeOf (at .first)))) refl
-      (next _ (x .at _ _) (next _ (y .at _ _) (next _ (z .at _ _) (rw (children-back es) at (taken-from {nodes = nodesOf s} s {top = 0} (Select set d) (pointerOf (at .pointer)) (map child es) b a)))))))
+      (next _ (x .at _ _) (next _ (y .at _ _) (next _ (z .at _ _) (rw (children-back es) at (taken-from {nodes = nodesOf s} s {top = 0} (Select set d) (pointerOf (at .pointer)) (map child es) (select-suits set d es) b a)))))))
 
   pub has-lowers : Allocated (HasAttr set) (pointerOf (at .pointer)) base v r t
       → Lowering 0 (below n) ownNode (λ nodes. lowerHasAttr nodes (lowerAt depth nodes) (mergeAt depth nodes) n) s r t
-  unfolding lowerHasAttr allocExpr exprMade exprWith covers _⊕_ price nothing oneExpr ownNode
+  unfolding lowerHasAttr allocExpr exprMade exprWith sortFor tagFits covers _⊕_ price nothing oneExpr ownNode
   has-lowers a =
       let es = lowerAttrpathOpt (nodesOf s) (lowerAt depth (nodesOf s)) (mergeAt depth (nodesOf s)) (nodeOf (at .second)) (stateOf u) .0 in
       all-lower
       (rw (← h .first, ← h .second, ← h .pointed)
       (fits 0 (λ w. omega (arith, three-below w h, heft-place (nodesOf s) (nodeOf (at .first)))) refl
-      (next _ (x .at _ _) (next _ (y .at _ _) (rw (children-back es) at (taken-from {nodes = nodesOf s} s {top = 0} (HasAttr set) (pointerOf (at .pointer)) (map child es) b a))))))
+      (next _ (x .at _ _) (next _ (y .at _ _) (rw (children-back es) at (taken-from {nodes = nodesOf s} s {top = 0} (HasAttr set) (pointerOf (at .pointer)) (map child es) (children-suit 24 es refl) b a))))))
 
 -- ---- strings and paths
 module _ (depth n : ℕ) (p : Pointer) {s : List ℕ} (q : p ≡ pointer (nodesOf s) n) where
@@ -88,25 +96,25 @@ module _ (depth n : ℕ) (p : Pointer) {s : List ℕ} (q : p ≡ pointer (nodesO
 
     pub string-parts : (base : ℕ) {u : List ℕ} → base ≡ length (waitingOf s) → m ≡ maybe-text.Absent → Parts depth n s u → Allocated StringInterpolation p base u r t
         → Lowering 0 (below n) oneExpr (λ nodes. lowerString nodes (lowerAt depth nodes) (mergeAt depth nodes) n) s r t
-    unfolding lowerString stringAs allocExpr exprMade exprWith covers _⊕_ price nothing oneExpr
+    unfolding lowerString stringAs allocExpr exprMade exprWith sortFor tagFits covers _⊕_ price nothing oneExpr
     string-parts base b o y a =
         let ps = each (lowerPart (nodesOf s) (lowerAt depth (nodesOf s)) (mergeAt depth (nodesOf s))) (items (nodesOf s) n) (stateOf s) .0 in
         all-lower
         (rw (text-missing s m _ e o, ← q)
         (fits 0 (λ w. omega arith) refl
-        (next _ (y .at _ _) (rw (parts-back ps) at (taken-from {nodes = nodesOf s} s {top = 0} StringInterpolation p (map partItem ps) b a)))))
+        (next _ (y .at _ _) (rw (parts-back ps) at (taken-from {nodes = nodesOf s} s {top = 0} StringInterpolation p (map partItem ps) (parts-suit 27 ps refl refl) b a)))))
 
   module _ (i : Bool) (e : Interpolated (nodesOf s) n i) {r : ℕ} {t : List ℕ} where
     pub path-parts : (base : ℕ) {u : List ℕ} → base ≡ length (waitingOf s) → i ≡ true → Parts depth n s u → Allocated PathInterpolation p base u r t
         → Lowering 0 (below n) ownNode (λ nodes. lowerPath nodes (lowerAt depth nodes) (mergeAt depth nodes) n) s r t
-    unfolding lowerPath allocExpr exprMade exprWith covers _⊕_ price nothing oneExpr ownNode
+    unfolding lowerPath allocExpr exprMade exprWith sortFor tagFits covers _⊕_ price nothing oneExpr ownNode
     path-parts base b o y a =
         let ps = each (lowerPart (nodesOf s) (lowerAt depth (nodesOf s)) (mergeAt depth (nodesOf s))) (items (nodesOf s) n) (stateOf s) .0 in
         all-lower
         (rw (← q)
         (fits 0 (λ w. omega arith) refl
         (yes-when _ (sym (e .says _ _) ∙ o)
-        (next _ (y .at _ _) (rw (parts-back ps) at (taken-from {nodes = nodesOf s} s {top = 0} PathInterpolation p (map partItem ps) b a))))))
+        (next _ (y .at _ _) (rw (parts-back ps) at (taken-from {nodes = nodesOf s} s {top = 0} PathInterpolation p (map partItem ps) (parts-suit 28 ps refl refl) b a))))))
 
     pub path-literal : (x : code-text.TextId) → i ≡ false → textIn s (x .0) ≡ text (nodesOf s) n → Lone (Literal (literals.Path x)) p s r t
         → Lowering 0 (below n) ownNode (λ nodes. lowerPath nodes (lowerAt depth nodes) (mergeAt depth nodes) n) s r t

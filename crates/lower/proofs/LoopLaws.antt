@@ -26,8 +26,9 @@ use Rattle.layout.specs.Texts.{textIn}
 use Rattle.layout.specs.Exprs.{child, children}
 use Rattle.layout.specs.Nodes.{nodesOf}
 use Rattle.layout.specs.States.{stateOf, waitingOf}
-use Rattle.store.specs.Codes.{exprWith, exprMade, itemWith}
-use Rattle.store.specs.Work.{Did, takeRow, pushItem}
+use Rattle.store.specs.Codes.{exprWith, sortFor, exprMade, itemWith}
+use Rattle.soundness.specs.Sound.{tagFits}
+use Rattle.store.specs.Work.{Did, Takes, pushItem}
 use Rattle.keys.specs.Items.{itemsFrom}
 use Rattle.keys.proofs.ItemLaws.{items-after-are}
 use Rattle.merge.specs.Room.{Price, _⊕_, covers, nothing, price, oneExpr, oneItem, ownNode}
@@ -37,7 +38,7 @@ use Rattle.lower.specs.Parts.{lowerAt, mergeAt, LowersNode, partItem, fi
 use Rattle.lower.specs.Reads.{attrsFrom, FirstIn, FirstEntry}
 use Rattle.lower.specs.Sizes.{sized, below, sizes, place}
 use Rattle.lower.proofs.SizeLaws.{own-and-below, after-size}
-use Rattle.lower.proofs.WaitLaws.{children-back, taken-from, all-collect}
+use Rattle.lower.proofs.WaitLaws.{children-back, children-suit, taken-from, all-collect}
 use Rattle.lower.proofs.Loops.{then-pushed, Merges, Gathering, gathering-turn, gathering-end, Merging, merging-end}
 
 -- ---- sizes: all items of a node are below it
@@ -108,19 +109,19 @@ list-turn depth g {k} n e x d = gathering-turn g n (child-waits (λ nodes. lower
 list-taken : (depth : ℕ) (n : NodeId) {s u t : List ℕ} {base : ℕ} (p : code-pointer.Pointer) {r : ℕ}
     → base ≡ length (waitingOf s) → pointerOf p ≡ pointer (nodesOf s) n
     → Collecting 0 (below n) nothing (map child) (λ nodes. each (lowerAt depth nodes) (items nodes n)) s u
-    → Did (takeRow (exprMade u code-expr.List (pointerOf p)) base) u r t
+    → Takes (sortFor code-expr.List) (exprMade u code-expr.List (pointerOf p)) base u r t
     → Lowering 0 (below n) ownNode (λ nodes. lowerList nodes (lowerAt depth nodes) (mergeAt depth nodes) n) s r t
-unfolding lowerList exprMade exprWith allocExpr covers _⊕_ nothing price ownNode oneExpr
+unfolding lowerList exprMade exprWith sortFor tagFits allocExpr covers _⊕_ nothing price ownNode oneExpr
 list-taken depth n {s} {u} {t} {base} p {r} b q c d =
     let es : List ExprId = each (lowerAt depth (nodesOf s)) (items (nodesOf s) n) (stateOf s) .0 in
     let x : Lowers (nodesOf s) (waitingOf s ++ map child es) (waitingOf s) 0 0 oneExpr (allocExpr (list (children (map child es))) (pointerOf p)) u r t =
-    taken-from s code-expr.List (pointerOf p) (map child es) b d in
+    taken-from s code-expr.List (pointerOf p) (map child es) (children-suit 16 es refl) b d in
     let y : Lowers (nodesOf s) (waitingOf s ++ map child es) (waitingOf s) 0 0 oneExpr (allocExpr (list es) (pointer (nodesOf s) n)) u r t = rw (children-back es, q) at x in
     all-lower (fits 0 (λ _. omega arith) refl (then {top′ = 0} (λ zs. allocExpr (list zs) (pointer (nodesOf s) n)) (omega arith) (c .at (nodesOf s) (waitingOf s)) y))
 
 pub list-end : (depth : ℕ) (n : NodeId) {s : List ℕ} {i : ℕ} {u t : List ℕ} {base : ℕ} (p : code-pointer.Pointer) {r : ℕ} → ListLeft depth n s i u
     → base ≡ length (waitingOf s) → pointerOf p ≡ pointer (nodesOf s) n → attrsFrom (nodesOf u) i (some n) ≡ []
-    → Did (takeRow (exprMade u code-expr.List (pointerOf p)) base) u r t
+    → Takes (sortFor code-expr.List) (exprMade u code-expr.List (pointerOf p)) base u r t
     → Lowering 0 (below n) ownNode (λ nodes. lowerList nodes (lowerAt depth nodes) (mergeAt depth nodes) n) s r t
 list-end depth n p g b q e d = list-taken depth n p b q (gathering-end g e) d
 

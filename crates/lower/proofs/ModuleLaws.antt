@@ -26,7 +26,9 @@ use Rattle.layout.specs.States.{setsOf, entriesOf, orderOf, stateOf, moduleIn, 
 use Rattle.layout.proofs.RowLaws.{length-rows, cap-lim}
 use Rattle.layout.proofs.Frames.{sets-kept, entries-kept, waiting-kept}
 use Rattle.layout.proofs.WriteLaws.{still-then}
-use Rattle.store.proofs.ExprLaws.{fine-kept}
+use Rattle.soundness.proofs.ModuleLaws.{accepted-module}
+use Rattle.soundness.proofs.FitLaws.{coded-fits}
+use Rattle.store.proofs.CodedLaws.{fine-kept}
 use Rattle.store.specs.Work.{Work, workOf, noWork, lowering, Fine}
 use Rattle.store.specs.Readers.{SetEntry}
 use Rattle.merging.proofs.RankLaws.{in-order-none}
@@ -96,14 +98,17 @@ module _ (s u t : List ℕ) (e : ℕ) (low : LowersNode 256 0 s e u) (put : SetE
 
   whole-lowered : (sheet : List ℕ) → judge sheet ≡ accepted (nodesOf s) → Fine s → workOf s ≡ noWork → Whole s t
   unfolding stateOf lowerModule moduleOf
-  whole-lowered sheet accepts fine no-work =
+  whole-lowered sheet accepts before no-work =
       let nodes = nodesOf s in
-      let l = low .whole .at nodes [] .does (setting-none s fine no-work sheet accepts) in
-      let q : _≡_ {A = ℕ × State} (e, stateOf u) (lowerExpr nodes 256 0 empty) = l .same ∙ ap (λ x. lowerExpr nodes 256 0 x) (state-none s fine no-work) in
+      let l = low .whole .at nodes [] .does (setting-none s before no-work sheet accepts) in
+      let q : _≡_ {A = ℕ × State} (e, stateOf u) (lowerExpr nodes 256 0 empty) = l .same ∙ ap (λ x. lowerExpr nodes 256 0 x) (state-none s before no-work) in
       let left = at-depth weightless nodes 256 .lowers [] 0 .makes empty refl tt in
+      let lowered : moduleIn t ≡ lowerModule nodes = put .entry ∙ ap (λ z. moduleOf (z .0) (z .1)) q in
+      let fine : Fine t = fine-kept entry-only (put .still) refl (l .ready .fine) in
       record {
-        lowered = put .entry ∙ ap (λ z. moduleOf (z .0) (z .1)) q;
-        fine = fine-kept entry-only refl refl (l .ready .fine);
+        lowered = lowered;
+        fine = fine;
+        fits = coded-fits t (fine .coded) (rw lowered (accepted-module sheet nodes accepts));
         none-waits = waiting-kept entry-only (put .still) refl refl ∙ l .waits;
         no-sets = sets-kept entry-only refl refl ∙ (ap (λ z. z .1 .sets) q ∙ left .sets);
         no-entries = entries-kept entry-only (put .still) refl refl ∙ (ap (λ z. z .1 .entries) q ∙ left .entries);

@@ -1,7 +1,7 @@
 // The module of the nodes in a store.
 ghost use Rattle.layout.specs.Layout.{Long};
 ghost use Rattle.lower.specs.Whole.{LowersAll};
-use crate::lower_ctx::lower_expr;
+use crate::ctx::expr;
 use module::NodeId;
 use store::set_entry;
 
@@ -10,6 +10,6 @@ pub fn lower(store: &mut [u8])
     requires { ⌜ Long (now store) ⌝ }
     ensures { λ _. ⌜ LowersAll (now (store .entry)) (now (store .exit)) ⌝ }
 {
-    let e = lower_expr(store, 256, NodeId(0));
+    let e = expr(store, 256, NodeId(0));
     set_entry(store, e);
 }

@@ -17,7 +17,7 @@ use Rattle.layout.specs.Layout.{exprLimit, itemLimit, waitingLimit}
 use Rattle.layout.specs.Exprs.{Item}
 use Rattle.layout.specs.States.{setsOf, orderOf, stateOf, waitingOf, usedOf}
 use Rattle.store.specs.Codes.{holeMade}
-use Rattle.store.specs.Work.{Work, workOf, Fine, Did, takeRow, takeLone, pushItem, putName, nameWith, putDuplicate}
+use Rattle.store.specs.Work.{Work, workOf, suits, Fine, Did, Takes, takeRow, takeLone, pushItem, putName, nameWith, putDuplicate}
 use Rattle.merging.specs.Ranks.{sorted}
 use Rattle.merge.specs.Room.{Resource, exprs, items, names, diagnostics, sets, entries, level, perNode, Price, price, oneExpr, oneItem, oneName, oneDuplicate}
 use Rattle.merge.specs.Lowers.{Ready, Setting, Lowered, Lowers}
@@ -63,11 +63,11 @@ by-work {own = own} {s = s} {t = t} {r = r} w c e fine same waits order zs es sp
 abbrev pub rowTaken : Made → List Item → ℕ → List ℕ → Work
 rowTaken m w n s = record { lowered = newMade m (stateOf s) .1; waiting = w; used = usedOf s + n; order = orderOf s }
 
-pub row-taken : (make : List Item → Made) (w is : List Item) {base : ℕ} {s : List ℕ} {r : ℕ} {t : List ℕ} → Fine s → waitingOf s ≡ w ++ is → base ≡ length w → length (stateOf s .exprs) + 1 ≤ exprLimit → usedOf s + length is ≤ itemLimit
-    → Did (takeRow make base) s r t → (_≡_ {A = ℕ × Work} (r, workOf t) (length (stateOf s .exprs), rowTaken (make is) w (length is) s)) × Fine t
+pub row-taken : (sort : ℕ) (make : List Item → Made) (w is : List Item) {base : ℕ} {s : List ℕ} {r : ℕ} {t : List ℕ} → suits sort is ≡ true → Fine s → waitingOf s ≡ w ++ is → base ≡ length w → length (stateOf s .exprs) + 1 ≤ exprLimit → usedOf s + length is ≤ itemLimit
+    → Takes sort make base s r t → (_≡_ {A = ℕ × Work} (r, workOf t) (length (stateOf s .exprs), rowTaken (make is) w (length is) s)) × Fine t
 unfolding workOf takeRow
-row-taken make w is {s = s} f e b h k d =
-    let z = d .does f in
+row-taken sort make w is {s = s} fit f e b h k d =
+    let z = d .does f (rw (e, b, drop-all w is) fit) in
     let l : ltb (length (stateOf s .exprs)) exprLimit ≡ true = lt-ltb (length (stateOf s .exprs)) exprLimit (omega (arith, h)) in
     let m : leb (usedOf s + length is) itemLimit ≡ true = le-leb (usedOf s + length is) itemLimit k in
     (rw (e, b, drop-all w is, take-all w is, l, m) at (z .0), z .1)
@@ -86,16 +86,16 @@ item-pushed i {s} f h d =
 
 -- ---- expressions
 -- An expression with the items that wait from `base` on.
-pub taken : {nodes : List Node} {w : List Item} {top : ℕ} (make : List Item → Made) (is : List Item) {base : ℕ} {s : List ℕ} {r : ℕ} {t : List ℕ} → (waitingOf s ≡ w ++ is → base ≡ length w) → Did (takeRow make base) s r t
+pub taken : {nodes : List Node} {w : List Item} {top : ℕ} (sort : ℕ) (make : List Item → Made) (is : List Item) {base : ℕ} {s : List ℕ} {r : ℕ} {t : List ℕ} → suits sort is ≡ true → (waitingOf s ≡ w ++ is → base ≡ length w) → Takes sort make base s r t
     → Lowers nodes (w ++ is) w top 0 oneExpr (newMade (make is)) s r t
 unfolding workOf newMade oneExpr price level perNode
-taken {w = w} make is {base} {s} {r} {t} b d = record {
+taken {w = w} sort make is {base} {s} {r} {t} fit b d = record {
   wrote = d .wrote;
   still = d .still;
   does = λ c.
       let e = c .waiting-are in
       let x : length (waitingOf s) ≡ length w + length is = rw e (length-append w is) in
-      let z = row-taken make w is (c .ready .fine) e (b e) (let q = c .room exprs in omega arith) (let q = c .room items in omega arith) d in
+      let z = row-taken sort make w is fit (c .ready .fine) e (b e) (let q = c .room exprs in omega arith) (let q = c .room items in omega arith) d in
       by-work (rowTaken (make is) w (length is) s) c (ap (λ x. x .1) (z .0)) (z .1) (ap (λ x. (x .0, newMade (make is) (stateOf s) .1)) (z .0)) refl refl refl refl (go e);
 }
   where
@@ -111,15 +111,19 @@ pub append-none : {A : Type 0} (l : List A) → l ++ [] ≡ l
 append-none [] = refl
 append-none (a ∷ l) = ap (λ z. a ∷ z) (append-none l)
 
+pub none-suit : (sort : ℕ) → suits sort [] ≡ true
+unfolding suits
+none-suit sort = refl
+
 -- An expression without items.
-pub taken-lone : {nodes : List Node} {w : List Item} {top : ℕ} (make : List Item → Made) {base : ℕ} {s : List ℕ} {r : ℕ} {t : List ℕ} → base ≡ length (waitingOf s) → Did (takeRow make base) s r t → Lowers nodes w w top 0 oneExpr (newMade (make [])) s r t
-taken-lone {nodes} {w} {top} make {s = s} {r = r} {t = t} b d =
-    let x : Lowers nodes (w ++ []) w top 0 oneExpr (newMade (make [])) s r t = taken make [] (λ e. b ∙ ap length (e ∙ append-none w)) d in
+pub taken-lone : {nodes : List Node} {w : List Item} {top : ℕ} (sort : ℕ) (make : List Item → Made) {base : ℕ} {s : List ℕ} {r : ℕ} {t : List ℕ} → base ≡ length (waitingOf s) → Takes sort make base s r t → Lowers nodes w w top 0 oneExpr (newMade (make [])) s r t
+taken-lone {nodes} {w} {top} sort make {s = s} {r = r} {t = t} b d =
+    let x : Lowers nodes (w ++ []) w top 0 oneExpr (newMade (make [])) s r t = taken sort make [] (none-suit sort) (λ e. b ∙ ap length (e ∙ append-none w)) d in
     rw (append-none w) at x
 
 pub missing-taken : {nodes : List Node} {w : List Item} {top : ℕ} {s : List ℕ} {r : ℕ} {t : List ℕ} → Did (takeLone holeMade) s r t → Lowers nodes w w top 0 oneExpr allocMissing s r t
 unfolding allocMissing takeLone holeMade workOf
-missing-taken {s = s} d = taken-lone holeMade {base = length (waitingOf s)} refl (record { wrote = d .wrote; still = d .still; does = d .does })
+missing-taken {s = s} d = taken-lone 0 holeMade {base = length (waitingOf s)} refl (record { wrote = d .wrote; still = d .still; does = λ fine fit. d .does fine })
 
 -- ---- items
 pub pushed : {nodes : List Node} {w : List Item} {top : ℕ} (i : Item) {s t : List ℕ} → Did (pushItem i) s tt t → Lowers {A = Unit {0}} nodes w (w ++ (i ∷ [])) top 0 oneItem (give tt) s tt t

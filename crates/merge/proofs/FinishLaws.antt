@@ -20,14 +20,15 @@ use Rattle.layout.specs.Exprs.{Item, static}
 use Rattle.layout.specs.States.{setsOf, entriesOf, orderOf, stateOf, waitingOf, usedOf}
 use Rattle.layout.proofs.Frames.{wrote-none, wrote-then}
 use Rattle.layout.proofs.WriteLaws.{still-then}
-use Rattle.store.specs.Codes.{exprWith, exprMade, holeMade}
-use Rattle.store.specs.Work.{lowering, Did, takeRow, takeLone, pushItem}
+use Rattle.store.specs.Codes.{exprWith, exprMade, holeMade, sortFor}
+use Rattle.soundness.specs.Sound.{tagFits}
+use Rattle.store.specs.Work.{lowering, Did, Takes, takeLone, pushItem}
 use Rattle.merging.specs.Ranks.{InOrder, segment}
 use Rattle.merging.specs.Run.{runFrom}
 use Rattle.merge.specs.Lowers.{Ready}
 use Rattle.merge.specs.Finishes.{bindingItems, finishEntry, only, valueLoad, entryLoad, Begins, Kept, Finished, Finishing, Listing}
 use Rattle.merge.proofs.Allocs.{append-none}
-use Rattle.merge.proofs.Items.{bindings-items, segment-becomes, segment-takes}
+use Rattle.merge.proofs.Items.{bindings-items, segment-becomes, segment-takes, bindings-suit}
 use Rattle.merge.proofs.FinishSteps.{kept-none, kept-then, order-same, begins-less, begins-then, finished-then, finished-as, finished-with, listing-of, taken, missing-taken, pushed}
 
 -- ---- finish_value
@@ -42,7 +43,7 @@ module _ (w : SetId → ℕ) (f : SetId → Low ExprId) where
   value-stays v s = record {
     at = λ is. record {
       wrote = wrote-none lowering s;
-      still = record { same = refl };
+      still = record { same = refl; used = refl };
       does = λ b. record { same = refl; waits = b .waiting-are; ready = b .ready; kept = kept-none (stateOf s); exprs-few = omega arith; items-few = omega arith };
     };
   }
@@ -101,7 +102,7 @@ pub record Going (bound : ℕ) (set : SetId) (s : List ℕ) (i : ℕ) (t : List 
 pub going-none : (bound : ℕ) (set : SetId) (s : List ℕ) (i : ℕ) → Going bound set s i s i
 going-none bound set s i = record {
   wrote = wrote-none lowering s;
-  still = record { same = refl };
+  still = record { same = refl; used = refl };
   does = λ w b. record { made = []; waits = b .waiting-are ∙ sym (append-none w); ready = b .ready; kept = kept-none (stateOf s); same = refl; exprs-few = omega arith; items-few = omega arith };
 }
 
@@ -181,15 +182,15 @@ unfolding load finishTo
 no-bound bound es set e d = rw e (record { at = λ w. record { wrote = d .wrote; still = d .still; does = λ b. missing-taken b d } })
 
 set-made : (bound : ℕ) (set : SetId) {s u t : List ℕ} (base : ℕ) (p : Pointer) {r : ExprId} → base ≡ length (waitingOf s) → Listing (loads (entriesOf s) bound set) bindingItems (finishWith (finishTo bound) set) s u
-    → p ≡ setAt set (stateOf u) .pointer → Did (takeRow (exprMade u (AttrSet false) p) base) u r t → Finishing (load (entriesOf s) (suc bound) set) (finishTo (suc bound) set) s r t
-unfolding load finishTo exprMade exprWith allocExpr asks _>>=_
+    → p ≡ setAt set (stateOf u) .pointer → Takes (sortFor (AttrSet false)) (exprMade u (AttrSet false) p) base u r t → Finishing (load (entriesOf s) (suc bound) set) (finishTo (suc bound) set) s r t
+unfolding load finishTo exprMade exprWith sortFor allocExpr asks _>>=_ tagFits
 set-made bound set {s} {u} {t} base p {r} first x at d = record {
   at = λ w. record {
     wrote = wrote-then (x .at [] .wrote) (d .wrote);
     still = still-then (x .at [] .still) (d .still);
     does = λ b.
         let l = x .at w .does (begins-less (omega arith) b) in
-        let z = taken (exprMade u (AttrSet false) p) (bindingItems bs) (begins-then (omega arith) b l) (first ∙ ap length (b .waiting-are)) d in
+        let z = taken (sortFor (AttrSet false)) (exprMade u (AttrSet false) p) (bindingItems bs) (bindings-suit (sortFor (AttrSet false)) bs refl refl refl) (begins-then (omega arith) b l) (first ∙ ap length (b .waiting-are)) d in
         finished-then (λ bs. asks (λ st. setAt set st .pointer) >>= λ p. allocExpr (attrSet false bs) p) (omega arith) l (finished-as made z);
   };
 }
@@ -202,7 +203,7 @@ set-made bound set {s} {u} {t} base p {r} first x at d = record {
 
 pub set-finished : (bound : ℕ) (set : SetId) {s u t : List ℕ} (base : ℕ) (p : Pointer) {r : ExprId} → 0 < bound → base ≡ length (waitingOf s)
     → Listing (loads (entriesOf s) (bound - 1) set) bindingItems (finishWith (finishTo (bound - 1)) set) s u
-    → p ≡ setAt set (stateOf u) .pointer → Did (takeRow (exprMade u (AttrSet false) p) base) u r t → Finishing (load (entriesOf s) bound set) (finishTo bound set) s r t
+    → p ≡ setAt set (stateOf u) .pointer → Takes (sortFor (AttrSet false)) (exprMade u (AttrSet false) p) base u r t → Finishing (load (entriesOf s) bound set) (finishTo bound set) s r t
 set-finished bound set base p h first x at d =
     let e : bound ≡ suc (bound - 1) = omega arith in
     rw e (set-made (bound - 1) set base p first x at d)

@@ -1,5 +1,6 @@
 -- How steps that finish sets follow one another, and the store's own steps as such. Assumes nothing.
 use mathlib.Core.Path.{_≡_, refl, sym, ap, _∙_}
+use mathlib.Core.Bool.{true}
 use mathlib.Core.List.{List, [], _++_}
 use Prim.Native.Nat.{ℕ, _+_, _≤_}
 use native.Mathlib.Omega.{arith}
@@ -11,11 +12,11 @@ use Rattle.layout.specs.Changes.{Wrote, Still}
 use Rattle.layout.specs.Exprs.{Item}
 use Rattle.layout.specs.States.{orderOf, stateOf, waitingOf, usedOf}
 use Rattle.store.specs.Codes.{holeMade}
-use Rattle.store.specs.Work.{Work, workOf, lowering, Fine, Did, takeRow, takeLone, pushItem}
+use Rattle.store.specs.Work.{Work, workOf, lowering, suits, Fine, Did, Takes, takeRow, takeLone, pushItem}
 use Rattle.merging.specs.Ranks.{sorted}
 use Rattle.merge.specs.Lowers.{Ready}
 use Rattle.merge.specs.Finishes.{Begins, Kept, Finished, Listing, only}
-use Rattle.merge.proofs.Allocs.{append-none, ready-same, rowTaken, row-taken, itemPushed, item-pushed}
+use Rattle.merge.proofs.Allocs.{append-none, none-suit, ready-same, rowTaken, row-taken, itemPushed, item-pushed}
 
 -- ---- what is kept
 pub kept-none : (st : State) → Kept st st
@@ -96,12 +97,12 @@ by-work {s = s} {t = t} {r = r} w b e fine same waits order kept exprs-few items
     }
 
 -- an expression with the items that wait from `base` on
-pub taken : {w : List Item} (make : List Item → Made) (is : List Item) {base : ℕ} {s : List ℕ} {r : ℕ} {t : List ℕ} → Begins (w ++ is) 1 s → base ≡ length w → Did (takeRow make base) s r t → Finished w 1 (newMade (make is)) s r t
+pub taken : {w : List Item} (sort : ℕ) (make : List Item → Made) (is : List Item) {base : ℕ} {s : List ℕ} {r : ℕ} {t : List ℕ} → suits sort is ≡ true → Begins (w ++ is) 1 s → base ≡ length w → Takes sort make base s r t → Finished w 1 (newMade (make is)) s r t
 unfolding newMade
-taken {w = w} make is {base} {s} b h d =
+taken {w = w} sort make is {base} {s} fit b h d =
     let e = b .waiting-are in
     let n : length (w ++ is) ≡ length w + length is = length-append w is in
-    let z = row-taken make w is (b .ready .fine) e h (omega (arith, b .exprs-fit)) (omega (arith, b .items-fit, n)) d in
+    let z = row-taken sort make w is fit (b .ready .fine) e h (omega (arith, b .exprs-fit)) (omega (arith, b .items-fit, n)) d in
     by-work (rowTaken (make is) w (length is) s) b (ap (λ x. x .1) (z .0)) (z .1) (ap (λ x. (x .0, newMade (make is) (stateOf s) .1)) (z .0)) refl refl
     (record { names-same = refl; diagnostics-same = refl; lost-same = refl; sets-same = refl; entries-same = refl })
     (simp length-append (omega arith))
@@ -111,7 +112,7 @@ pub missing-taken : {w : List Item} {s : List ℕ} {r : ℕ} {t : List ℕ} → 
 unfolding allocMissing takeLone holeMade workOf
 missing-taken {w} {s} b d =
     let c : Begins (w ++ []) 1 s = rw (append-none w) b in
-    taken holeMade [] {base = length (waitingOf s)} c (ap length (b .waiting-are)) (record { wrote = d .wrote; still = d .still; does = d .does })
+    taken 0 holeMade [] {base = length (waitingOf s)} (none-suit 0) c (ap length (b .waiting-are)) (record { wrote = d .wrote; still = d .still; does = λ fine fit. d .does fine })
 
 -- an item
 pub pushed : {w : List Item} (i : Item) {s t : List ℕ} → Begins w 1 s → Did (pushItem i) s tt t → Finished (w ++ only i) 1 (give i) s i t

@@ -1,5 +1,6 @@
 -- The bindings of a set as items, and its entries as the items that they become. Assumes nothing.
 use mathlib.Core.Path.{_≡_, refl, ap, _∙_}
+use mathlib.Core.Bool.{true}
 use mathlib.Core.List.{List, [], _∷_, _++_, map}
 use mathlib.Core.Option.{Option, none, some}
 use Prim.Native.Nat.{ℕ, _+_}
@@ -13,6 +14,9 @@ use Rattle.spec.specs.Merge.{Static, staticsOf, sourcesOf, dynamicsOf, finishSt
 use Rattle.spec.proofs.Forest.{total, total-append}
 use Rattle.spec.proofs.Loads.{staticLoad, loadIn, loads-parts}
 use Rattle.layout.specs.Exprs.{Item, child, children, statics, dynamics, bindings}
+use Rattle.spec.proofs.Subtrees.{and-true}
+use Rattle.soundness.specs.Sound.{tagFits}
+use Rattle.store.specs.Work.{tagFor, suits}
 use Rattle.merging.specs.Ranks.{staticEntry, dynamicEntry, inClasses, segment}
 use Rattle.merge.specs.Finishes.{staticItem, dynamicItem, bindingItems, finishEntry, valueLoad, entryLoad}
 
@@ -143,3 +147,21 @@ module _ (w : SetId → ℕ) where
           dynamics-take (dynamicsOf s es),
           loads-parts w s es,
         )
+
+-- ---- items that an expression may have
+pub suits-both : (sort : ℕ) (is js : List Item) → suits sort is ≡ true → suits sort js ≡ true → suits sort (is ++ js) ≡ true
+unfolding suits
+suits-both sort [] js a b = b
+suits-both sort (i ∷ is) js a b = let z = and-true (tagFits sort (tagFor i)) (suits sort is) a in rw (z .0) (suits-both sort is js (z .1) b)
+
+pub suits-map : {A : Type 0} (sort : ℕ) (f : A → Item) → ((a : A) → tagFits sort (tagFor (f a)) ≡ true) → (xs : List A) → suits sort (map f xs) ≡ true
+unfolding suits
+suits-map sort f h [] = refl
+suits-map sort f h (x ∷ xs) = rw (h x) (suits-map sort f h xs)
+
+-- bindings, of a sort that takes children, statics and dynamics
+pub bindings-suit : (sort : ℕ) (b : Bindings) → tagFits sort 0 ≡ true → tagFits sort 6 ≡ true → tagFits sort 9 ≡ true → suits sort (bindingItems b) ≡ true
+unfolding bindingItems staticItem dynamicItem tagFor
+bindings-suit sort b p q r =
+    suits-both sort (map staticItem (b .statics)) _ (suits-map sort staticItem (λ x. q) (b .statics))
+    (suits-both sort (map child (b .inheritFroms)) _ (suits-map sort child (λ e. p) (b .inheritFroms)) (suits-map sort dynamicItem (λ d. r) (b .dynamics)))

@@ -43,7 +43,7 @@ pub given : {A : Type 0} {s : List ℕ} (a : A) → Merges nothing (give a) s a 
 unfolding give nothing price
 given {s = s} a = record {
   wrote = wrote-none lowering s;
-  still = record { same = refl };
+  still = record { same = refl; used = refl };
   does = λ fine order room. record { same = refl; waits = refl; fine = fine; order = order; spent = λ k. omega arith };
 }
 

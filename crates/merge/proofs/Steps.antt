@@ -149,7 +149,7 @@ module _ {nodes : List Node} where
   unfolding give nothing price
   gave {s = s} a = record {
     wrote = wrote-none lowering s;
-    still = record { same = refl };
+    still = record { same = refl; used = refl };
     does = λ c. record { same = refl; waits = c .waiting-are; ready = c .ready; spent = λ k. omega arith; grows = omega arith };
   }
 

@@ -26,7 +26,8 @@ use Rattle.layout.proofs.RowLaws.{length-rows, rows-put, cap-lim}
 use Rattle.layout.proofs.Frames.{Same, text-still, entry-same, number-kept, exprs-kept, names-kept, diagnostics-kept, lost-kept, sets-kept, waiting-kept, order-kept}
 use Rattle.layout.proofs.WriteLaws.{still-setWord, still-all, still-then, Small, length-all, all-other, all-at}
 use Rattle.store.specs.Work.{workOf, withState, lowering, Did}
-use Rattle.store.proofs.ExprLaws.{nothing-done, fine-kept, used-kept}
+use Rattle.store.proofs.ExprLaws.{nothing-done, used-kept}
+use Rattle.store.proofs.CodedLaws.{fine-kept}
 use Rattle.merging.specs.declared.entry.Entry.{Entry}
 use Rattle.merging.specs.declared.entry.Entry.the-variants.{Static, Source, Dynamic}
 use Rattle.merging.specs.declared.entry_rows.EntryRow.{EntryRow}
@@ -47,7 +48,7 @@ entry-put s u t r e n at long few ea says h5 h2 eu et =
     let ws = r .tag ∷ r .set ∷ r .a ∷ r .b ∷ r .nested ∷ [] in
     let vs = r .sort ∷ r .value ∷ [] in
     let lu : length u ≡ length s = rw eu (length-all s at ws) in
-    let still : Still s t = still-then {u = u} (rw eu (still-all s at ws (omega arith))) (rw et (still-all u (at + 20) vs (omega arith))) in
+    let still : Still s t = still-then {u = u} (rw eu (still-all s at ws (omega arith) (λ z. omega arith))) (rw et (still-all u (at + 20) vs (omega arith) (λ z. omega arith))) in
     let row : (i j : ℕ) → i < 5 → j ≡ at + 4 * i → word t j ≡ getD ws i 0 = λ i j h q. rw et (all-other u (at + 20) vs j (inl (omega arith)) ∙ rw eu (all-at s at ws h5 (omega arith) i j h q)) in
     let end : (i j : ℕ) → i < 2 → j ≡ at + 20 + 4 * i → word t j ≡ getD vs i 0 = λ i j h q. rw et (all-at u (at + 20) vs h2 (omega arith) i j h q) in
     let o = entriesAt + 32 * n in
@@ -128,7 +129,7 @@ change-did s t f i n size h w still row =
           used-kept wrote refl refl,
           order-kept wrote refl refl,
         ),
-        fine-kept wrote refl refl fine,
+        fine-kept wrote still refl fine,
       );
     }
 
@@ -143,7 +144,7 @@ value-set s t v i n at sort e long size h ea hs he is et =
     let few : i < 4096 = omega (arith, length-entries s, cap-lim (word s entryCount) entryLimit) in
     let ws = sort ∷ e ∷ [] in
     let other : (j : ℕ) → (j + 4 ≤ at + 20) ⊎ (at + 28 ≤ j) → word t j ≡ word s j = λ j o. rw et (all-other s (at + 20) ws j (⊎-elim (λ z. inl (omega arith)) (λ z. inr (omega arith)) o)) in
-    let still : Still s t = rw et (still-all s (at + 20) ws (omega arith)) in
+    let still : Still s t = rw et (still-all s (at + 20) ws (omega arith) (λ z. omega arith)) in
     let a : word t (entriesAt + 32 * i + 20) ≡ sort = rw et (all-at s (at + 20) ws (hs, (he, tt)) (omega arith) 0 (entriesAt + 32 * i + 20) (omega arith) (omega arith)) in
     let b : word t (entriesAt + 32 * i + 24) ≡ e = rw et (all-at s (at + 20) ws (hs, (he, tt)) (omega arith) 1 (entriesAt + 32 * i + 24) (omega arith) (omega arith)) in
     let c : word t (entriesAt + 32 * i + 16) ≡ word s (entriesAt + 32 * i + 16) = other (entriesAt + 32 * i + 16) (inl (omega arith)) in
@@ -157,7 +158,7 @@ unfolding withNested Outside marked
 nested-set s t m i n at long size h ea hm et =
     let few : i < 4096 = omega (arith, length-entries s, cap-lim (word s entryCount) entryLimit) in
     let other : (j : ℕ) → (j + 4 ≤ at + 16) ⊎ (at + 20 ≤ j) → word t j ≡ word s j = λ j o. rw et (word-setWord-other s (at + 16) m j (⊎-elim (λ z. inl (omega arith)) (λ z. inr (omega arith)) o)) in
-    let still : Still s t = rw et (still-setWord s (at + 16) m (omega arith)) in
+    let still : Still s t = rw et (still-setWord s (at + 16) m (omega arith) (λ z. omega arith)) in
     let same : at + 16 ≡ entriesAt + 32 * i + 16 = omega arith in
     let a : word t (entriesAt + 32 * i + 16) ≡ m = rw (et, ← same) (word-setWord-same s (at + 16) m (omega arith) (omega arith)) in
     let b : word t (entriesAt + 32 * i + 20) ≡ word s (entriesAt + 32 * i + 20) = other (entriesAt + 32 * i + 20) (inr (omega arith)) in

@@ -24,7 +24,8 @@ use Rattle.layout.proofs.RowLaws.{rows-same, length-rows, cap-le, cap-over}
 use Rattle.layout.proofs.Frames.{entry-same, exprs-kept, names-kept, diagnostics-kept, lost-kept, sets-kept, waiting-kept}
 use Rattle.layout.proofs.WriteLaws.{still-splice, still-setWord, still-then}
 use Rattle.store.specs.Work.{lowering}
-use Rattle.store.proofs.ExprLaws.{fine-kept, used-kept}
+use Rattle.store.proofs.ExprLaws.{used-kept}
+use Rattle.store.proofs.CodedLaws.{fine-kept}
 use Rattle.merging.specs.declared.entry.Entry.{Entry}
 use Rattle.merging.specs.declared.standing.Standing.{Standing}
 use Rattle.merging.specs.Ranks.{standing, rank, after, InOrder, placed}
@@ -69,7 +70,7 @@ module _ (s u v t : List ℕ) (q n at rest : ℕ) (long : Long s) (h : q ≤ n) 
       size = rw et (length-setWord v 40 (n + 1)) ∙ length-v;
       other = λ j o. later j (o .0) (⊎-elim (λ z. inl (omega arith)) (λ z. inr (omega arith)) (o .1 .0)) ∙ unmoved j (⊎-elim (λ z. inl (omega arith)) (λ z. inr (omega arith)) (o .1 .0));
     };
-    still = still-then {u = u} (rw eu (still-splice s (at + 4) (run s at (4 * rest)) (omega (arith, size-of-run)))) (still-then {u = v} (rw ev (still-setWord u at n (omega arith))) (rw et (still-setWord v 40 (n + 1) (omega arith))));
+    still = still-then {u = u} (rw eu (still-splice s (at + 4) (run s at (4 * rest)) (omega (arith, size-of-run)) (λ z. omega (arith, size-of-run)))) (still-then {u = v} (rw ev (still-setWord u at n (omega arith) (λ z. omega arith))) (rw et (still-setWord v 40 (n + 1) (omega arith) (λ z. omega arith))));
     count = rw et (word-setWord-same v 40 (n + 1) (omega (arith, length-v)) (omega arith));
     own = rw (← ea, et) (word-setWord-other v 40 (n + 1) at (inr (omega arith)) ∙ rw ev (word-setWord-same u at n (omega (arith, length-u)) (omega arith)));
     moved = λ j a b. moved-word (4 * (j - q)) (runAt + 4 * (j + 1)) (runAt + 4 * j) (omega arith) (omega arith) (omega arith);
@@ -165,7 +166,7 @@ module _ (s u t : List ℕ) (e : Entry) (q n : ℕ) (en : n ≡ length (entriesO
             lost-kept added-wrote refl refl,
             sets-kept added-wrote refl refl,
           ),
-          (waiting-kept added-wrote added-still refl refl, (used-kept added-wrote refl refl, (fine-kept added-wrote refl refl fine, order-kept p stands place o))),
+          (waiting-kept added-wrote added-still refl refl, (used-kept added-wrote refl refl, (fine-kept added-wrote added-still refl fine, order-kept p stands place o))),
         );
       }
 
@@ -173,4 +174,4 @@ pub not-entered : (s : List ℕ) (e : MergingEntry) (n : ℕ) → n ≡ length (
 unfolding putEntry stateOf
 not-entered s e n en h =
     let l : ltb (length (entriesOf s)) entryLimit ≡ false = le-ltb (length (entriesOf s)) entryLimit (omega arith) in
-    record { wrote = record { size = refl; other = λ j o. refl }; still = record { same = refl }; does = λ fine o. (rw l, (refl, (refl, (fine, o)))) }
+    record { wrote = record { size = refl; other = λ j o. refl }; still = record { same = refl; used = refl }; does = λ fine o. (rw l, (refl, (refl, (fine, o)))) }

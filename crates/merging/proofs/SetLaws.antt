@@ -28,7 +28,8 @@ use Rattle.layout.proofs.RowLaws.{rows-same, rows-take, length-rows, getD-rows,
 use Rattle.layout.proofs.Frames.{Same, same-on, pointer-same, set-same, entry-same, exprs-kept, names-kept, diagnostics-kept, lost-kept, entries-kept, waiting-kept, order-kept}
 use Rattle.layout.proofs.WriteLaws.{still-setWord, still-all, still-then, Small, length-all, all-other, all-at}
 use Rattle.store.specs.Work.{workOf, withState, lowering, Did}
-use Rattle.store.proofs.ExprLaws.{nothing-done, fine-kept, used-kept}
+use Rattle.store.proofs.ExprLaws.{nothing-done, used-kept}
+use Rattle.store.proofs.CodedLaws.{fine-kept}
 use Rattle.store.proofs.NameLaws.{pointer-put}
 use Rattle.merging.specs.Entries.{openSet, cutTo}
 use Rattle.merging.proofs.EntryLaws.{length-entries}
@@ -85,7 +86,7 @@ set-opened s u v t k p number n at long e few en hn hp ea eu ev et =
       size = rw et (length-setWord v 36 (n + 1)) ∙ lv ∙ lu;
       other = λ j o. other j (o .0) (⊎-elim (λ z. inl (omega arith)) (λ z. inr (omega arith)) (o .1 .0));
     } in
-    let still : Still s t = still-then {u = u} (rw eu (still-all s at ps (omega arith))) (still-then {u = v} (rw ev (still-setWord u (at + 12) number (omega arith))) (rw et (still-setWord v 36 (n + 1) (omega arith)))) in
+    let still : Still s t = still-then {u = u} (rw eu (still-all s at ps (omega arith) (λ z. omega arith))) (still-then {u = v} (rw ev (still-setWord u (at + 12) number (omega arith) (λ z. omega arith))) (rw et (still-setWord v 36 (n + 1) (omega arith) (λ z. omega arith)))) in
     let c : word t 36 ≡ n + 1 = rw et (word-setWord-same v 36 (n + 1) (omega arith) (omega arith)) in
     let same : at + 12 ≡ setsAt + 16 * n + 12 = omega arith in
     let kind : word t (setsAt + 16 * n + 12) ≡ number = rw et (word-setWord-other v 36 (n + 1) (setsAt + 16 * n + 12) (inr (omega arith)) ∙ rw (ev, ← same) (word-setWord-same u (at + 12) number (omega arith) hn)) in
@@ -110,7 +111,7 @@ set-opened s u v t k p number n at long e few en hn hp ea eu ev et =
           used-kept wrote refl refl,
           order-kept wrote refl refl,
         ),
-        fine-kept wrote refl refl fine,
+        fine-kept wrote still refl fine,
       );
     }
 
@@ -148,7 +149,7 @@ cut-done s t sets entries n m a b long en em ea eb ha hb et =
     let ls = cap-lim (word s setCount) setLimit in
     let le = cap-lim (word s entryCount) entryLimit in
     let wrote : Wrote ((36, 44) ∷ []) s t = record { size = rw et (length-all s 36 ws); other = λ j o. rw et (all-other s 36 ws j (⊎-elim (λ z. inl (omega arith)) (λ z. inr (omega arith)) (o .0))) } in
-    let still : Still s t = rw et (still-all s 36 ws (omega arith)) in
+    let still : Still s t = rw et (still-all s 36 ws (omega arith) (λ z. omega arith)) in
     let v : Same s t 64 2998372 = same-on 64 2998372 wrote refl in
     let wa : word t setCount ≡ a = rw et (all-at s 36 ws (ha, (hb, tt)) (omega arith) 0 36 (omega arith) (omega arith)) in
     let wb : word t entryCount ≡ b = rw et (all-at s 36 ws (ha, (hb, tt)) (omega arith) 1 40 (omega arith) (omega arith)) in
@@ -170,6 +171,6 @@ cut-done s t sets entries n m a b long en em ea eb ha hb et =
           waiting-kept wrote still refl refl,
           used-kept wrote refl refl,
         ),
-        fine-kept wrote refl refl fine,
+        fine-kept wrote still refl fine,
       );
     }

@@ -1,21 +1,22 @@
 -- A store that was emptied. Assumes nothing.
-use mathlib.Core.Path.{_≡_, refl, _∙_}
+use mathlib.Core.Path.{_≡_, refl, ap, _∙_}
 use mathlib.Core.Logic.{_⊎_, inl, inr, ⊎-elim}
 use mathlib.Core.List.{List, [], _∷_}
 use Prim.Native.Nat.{ℕ, zero, suc, _+_, _*_, _≤_, _<_}
 use native.Mathlib.Omega.{arith}
-use lib.ListN.{length, getD}
+use lib.ListN.{length, getD, drop}
 use Rattle.words.specs.Words.{word, setWord}
 use Rattle.words.proofs.WordLaws.{length-setWord, word-setWord-same, word-setWord-other}
 use Rattle.spec.specs.State.{empty}
-use Rattle.layout.specs.Layout.{Long, sheetAt, exprCount, exprLimit}
+use Rattle.layout.specs.Layout.{Long, sheetAt, waitingLimit}
 use Rattle.layout.specs.Rows.{cap, rowsTo, setAll}
-use Rattle.layout.specs.Changes.{Outside, Wrote, Still}
+use Rattle.layout.specs.Changes.{Outside, Wrote}
 use Rattle.layout.specs.Exprs.{firstItem}
 use Rattle.layout.specs.States.{exprsOf, namesOf, diagnosticsOf, lostOf, setsOf, entriesOf, stateOf, waitingOf, usedOf, orderOf}
 use Rattle.store.specs.Work.{workOf, noWork, clearing, Fine, Cleared}
 use Rattle.layout.proofs.RowLaws.{cap-le}
-use Rattle.layout.proofs.WriteLaws.{still-setWord, still-all, still-then, Small, length-all, all-other, all-at}
+use Rattle.layout.proofs.WriteLaws.{drop-setWord, drop-all, Small, length-all, all-other, all-at}
+use Rattle.store.proofs.CodedLaws.{all-coded}
 
 abbrev zeros : List ℕ
 zeros = 0 ∷ 0 ∷ 0 ∷ 0 ∷ 0 ∷ []
@@ -39,9 +40,17 @@ work-none : (t : List ℕ) → word t 0 ≡ 0 → word t 4 ≡ 0 → word t 8 �
 unfolding workOf noWork stateOf exprsOf namesOf diagnosticsOf lostOf setsOf entriesOf waitingOf usedOf orderOf firstItem cap rowsTo
 work-none t a b c d e f g h = rw (a, b, c, d, e, f, g, h)
 
-fine-none : (t : List ℕ) → word t 0 ≡ 0 → word t 64 ≡ 0 → Fine t
-unfolding usedOf firstItem cap
-fine-none t a h = record { few = rw (a, h) (omega arith); below = λ e k. absurd (let z : e < 0 = rw a at k in omega arith) }
+none-below : {A : Type 0} {i n : ℕ} → n ≡ 0 → i < n → A
+none-below e h = absurd (omega arith)
+
+fine-none : (t : List ℕ) → word t 0 ≡ 0 → word t 4 ≡ 0 → word t 8 ≡ 0 → word t 12 ≡ 0 → word t 32 ≡ 0 → word t 64 ≡ 0 → Fine t
+unfolding firstItem
+fine-none t a b c d f h =
+    all-coded
+    (record { few = rw a (omega arith); begins = h; rises = λ e k. none-below a k; fewItems = rw (a, h) (omega arith); rows = λ e k. none-below a k; items = λ e j k l m. none-below a k })
+    (record { few = rw b (omega arith); rows = λ x k. none-below b k })
+    (record { few = rw c (omega arith); fewLost = rw d (omega arith); rows = λ i k. none-below c k })
+    (λ i k. none-below (rw f (cap-le 0 waitingLimit (omega arith))) k)
 
 pub cleared : (s a b c d e t : List ℕ) → Long s → a ≡ setAll s 0 zeros → b ≡ setAll a 20 zeros → c ≡ setWord b 40 0 → d ≡ setWord c 64 0 → e ≡ setWord d 2441300 0 → t ≡ setWord e 2506848 0 → Cleared s t
 unfolding Outside clearing
@@ -69,15 +78,15 @@ cleared s a b c d e t long ea eb ec ed ee et =
             ∙ rw eb (all-other a 20 zeros j (⊎-elim (λ z. inl (omega arith)) (λ z. inr (omega arith)) (o .0))
             ∙ rw ea (all-other s 0 zeros j (⊎-elim (λ z. absurd (omega arith)) (λ z. inr (omega arith)) (o .0)))));
       };
-      still =
-          still-then {u = a} (rw ea (still-all s 0 zeros (omega arith)))
-          (still-then {u = b} (rw eb (still-all a 20 zeros (omega arith)))
-          (still-then {u = c} (rw ec (still-setWord b 40 0 (omega arith)))
-          (still-then {u = d} (rw ed (still-setWord c 64 0 (omega arith)))
-          (still-then {u = e} (rw ee (still-setWord d 2441300 0 (omega arith)))
-          (rw et (still-setWord e 2506848 0 (omega arith)))))));
+      same =
+          ap (drop sheetAt) et ∙ drop-setWord e 2506848 0 sheetAt (omega arith)
+          ∙ (ap (drop sheetAt) ee ∙ drop-setWord d 2441300 0 sheetAt (omega arith))
+          ∙ (ap (drop sheetAt) ed ∙ drop-setWord c 64 0 sheetAt (omega arith))
+          ∙ (ap (drop sheetAt) ec ∙ drop-setWord b 40 0 sheetAt (omega arith))
+          ∙ (ap (drop sheetAt) eb ∙ drop-all a 20 zeros sheetAt (omega arith))
+          ∙ (ap (drop sheetAt) ea ∙ drop-all s 0 zeros sheetAt (omega arith));
       work = work-none t (first 0 0 (omega arith) (omega arith)) (first 1 4 (omega arith) (omega arith)) (first 2 8 (omega arith) (omega arith)) (first 3 12 (omega arith) (omega arith)) (second 3 32 (omega arith) (omega arith)) (second 4 36 (omega arith) (omega arith)) w40 w64;
-      fine = fine-none t (first 0 0 (omega arith) (omega arith)) w64;
+      fine = fine-none t (first 0 0 (omega arith) (omega arith)) (first 1 4 (omega arith) (omega arith)) (first 2 8 (omega arith) (omega arith)) (first 3 12 (omega arith) (omega arith)) (second 3 32 (omega arith) (omega arith)) w64;
       entry = first 4 16 (omega arith) (omega arith);
       scopes = second 0 20 (omega arith) (omega arith);
       spent = second 1 24 (omega arith) (omega arith);

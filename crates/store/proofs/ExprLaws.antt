@@ -6,7 +6,7 @@ use mathlib.Core.List.{List, [], _∷_, _++_}
 use mathlib.Core.Option.{Option, none, some}
 use Prim.Native.Nat.{ℕ, zero, suc, _+_, _-_, _*_, _≤_, _<_, _^_}
 use native.Mathlib.Omega.{arith}
-use lib.ListN.{length, getD, take, drop, length-drop}
+use lib.ListN.{length, getD, take, drop, length-drop, length-take}
 use lib.Seq.{take-all, drop-nil}
 use lib.Dec.{ltb, leb, eqb}
 use borrow.Author.Tests.{lt-ltb, le-ltb, le-leb, lt-leb, ltb-true, ltb-false, leb-true, leb-false}
@@ -27,12 +27,17 @@ use Rattle.layout.specs.Layout.{Long, exprCount, waitingCount, exprsAt, exprPoi
 use Rattle.layout.specs.Rows.{cap, rowsTo, rowsFrom, setAll}
 use Rattle.layout.specs.Changes.{Range, Outside, Wrote, Still}
 use Rattle.layout.specs.Texts.{textIn}
-use Rattle.layout.specs.Exprs.{Item, itemOf, itemAt, itemIn, exprOf, pointerAt, pointerOr, firstItem, itemsOf, sortOf, madeIn}
+use Rattle.layout.specs.Exprs.{Item, child, itemOf, itemAt, itemIn, exprOf, pointerAt, pointerOr, firstItem, itemsOf, sortOf, madeIn}
 use Rattle.layout.specs.States.{exprsOf, namesOf, diagnosticsOf, lostOf, setsOf, entriesOf, stateOf, waitingOf, usedOf, orderOf}
 use Rattle.module.specs.declared.expr.Expr.{Expr}
-use Rattle.store.specs.Codes.{rowMade, exprMade, holeMade, Says}
-use Rattle.store.specs.Work.{Work, workOf, takeRow, takeLone, pushItem, lowering, Fine, Did, Took, PutRow}
-use Rattle.layout.proofs.RowLaws.{rows-same, length-rows, rows-take, rows-drop, between-same, cap-le, cap-over, cap-lim}
+use Rattle.store.specs.Codes.{rowMade, exprMade, holeMade, sortFor, Says, HeldRow}
+use Rattle.store.specs.Work.{Work, workOf, takeRow, takeLone, pushItem, lowering, tagFor, suits, waitCoded, Fine, Did, DidWhere, Takes, Took, PutRow}
+use Rattle.soundness.specs.Sound.{tagFits}
+use Rattle.soundness.specs.Coded.{fieldsCoded, rowCoded, partCoded, itemCoded}
+use Rattle.soundness.proofs.NumberLaws.{by-tag}
+use Rattle.spec.proofs.Subtrees.{and-true}
+use Rattle.store.proofs.CodedLaws.{ExprsCoded, WaitsCoded, exprs-coded, names-coded, diagnostics-coded, all-coded, firsts-rise, fields-still, part-still, row-coded-same, item-coded-same, wait-coded-same, exprs-coded-kept, names-coded-kept, diagnostics-coded-kept}
+use Rattle.layout.proofs.RowLaws.{rows-same, length-rows, getD-rows, rows-take, rows-drop, between-same, cap-le, cap-over, cap-lim}
 use Rattle.layout.proofs.Frames.{Same, apart, same-on, wrote-then, run-still, text-still, pointer-same, item-same, items-same, made-same, own-items-same, number-kept, exprs-kept, names-kept, diagnostics-kept, lost-kept, sets-kept, entries-kept, waiting-kept, order-kept}
 use Rattle.layout.proofs.WriteLaws.{still-splice, still-setWord, still-all, still-then, Small, length-all, all-other, all-is, all-at}
 
@@ -91,7 +96,7 @@ module _ (s u t : List ℕ) (base count first : ℕ) (long : Long s) (some-wait 
   }
 
   took-still : Still s t
-  took-still = rw cut (still-then {u = u} (rw moved (still-splice s (itemsAt + 12 * first) (run s (waitingAt + 12 * base) (12 * count)) (omega (arith, run-size)))) (still-setWord u 32 base (omega arith)))
+  took-still = rw cut (still-then {u = u} (rw moved (still-splice s (itemsAt + 12 * first) (run s (waitingAt + 12 * base) (12 * count)) (omega (arith, run-size)) (λ z. omega (arith, run-size)))) (still-setWord u 32 base (omega arith) (λ z. omega arith)))
 
   took-word : (i to at : ℕ) → i + 4 ≤ 12 * count → to ≡ itemsAt + 12 * first + i → at ≡ waitingAt + 12 * base + i → word t to ≡ word s at
   took-word i to at h p q = rw (cut, p, q) (word-setWord-other u 32 base (itemsAt + 12 * first + i) (inr (omega arith)) ∙ moved-is i h)
@@ -109,6 +114,7 @@ module _ (s u t : List ℕ) (base count first : ℕ) (long : Long s) (some-wait 
             (took-word (12 * j) _ _ (omega arith) (omega arith) (omega arith))
             (took-word (12 * j + 4) _ _ (omega arith) (omega arith) (omega arith))
             (took-word (12 * j + 8) _ _ (omega arith) (omega arith) (omega arith));
+        moved = λ i h. took-word i _ _ h refl refl;
         waiting = rw (n, cap-le base waitingLimit (omega (arith, inside .1))) (
             rows-same (λ i. itemAt t (waitingAt + 12 * i)) (λ i. itemAt s (waitingAt + 12 * i)) base (λ i h. item-same s t (waitingAt + 12 * i) took-still (λ j p q. took-wrote .other j (inr (omega arith), (inr (omega arith), tt))))
             ∙ sym (rows-take (λ i. itemAt s (waitingAt + 12 * i)) (cap (word s waitingCount) waitingLimit) base few));
@@ -117,8 +123,9 @@ module _ (s u t : List ℕ) (base count first : ℕ) (long : Long s) (some-wait 
 pub took-none : (s : List ℕ) (base count first : ℕ) → count ≤ 0 → count ≡ length (drop base (waitingOf s)) → Took base count first s s
 took-none s base count first h e = record {
   wrote = record { size = refl; other = λ j o. refl };
-  still = record { same = refl };
+  still = record { same = refl; used = refl };
   items = λ j k. absurd (omega arith);
+  moved = λ i k. absurd (omega arith);
   waiting = sym (take-all base (waitingOf s) (omega (arith, length-drop base (waitingOf s))));
 }
 
@@ -144,7 +151,7 @@ row-put s u v t n end r p at to long h he hr hp ea et eu ev ew =
             ∙ rw ev (all-other u to ps j (⊎-elim (λ z. inl (omega arith)) (λ z. inr (omega arith)) (o .1 .1 .0))
             ∙ rw eu (all-other s at ws j (⊎-elim (λ z. inl (omega arith)) (λ z. inr (omega arith)) (o .1 .0)))));
       };
-      still = still-then {u = u} (rw eu (still-all s at ws (omega arith))) (still-then {u = v} (rw ev (still-all u to ps (omega arith))) (rw ew (still-setWord v 0 (n + 1) (omega arith))));
+      still = still-then {u = u} (rw eu (still-all s at ws (omega arith) (λ z. omega arith))) (still-then {u = v} (rw ev (still-all u to ps (omega arith) (λ z. omega arith))) (rw ew (still-setWord v 0 (n + 1) (omega arith) (λ z. omega arith))));
       count = rw ew (word-setWord-same v 0 (n + 1) (omega arith) (omega arith));
       next = row 4 (exprsAt + 20 * (n + 1)) (omega arith) (omega arith);
       sort = row 0 (exprsAt + 20 * n + 4) (omega arith) (omega arith);
@@ -160,6 +167,25 @@ drop-past [] k h = drop-nil k
 drop-past (x ∷ xs) zero h = absurd (omega arith)
 drop-past (x ∷ xs) (suc k) h = drop-past xs k (omega arith)
 
+-- ---- items that an expression may have
+pub both : {a b : Bool} → a ≡ true → b ≡ true → (a && b) ≡ true
+both e f = rw (e, f)
+
+suits-at : (sort : ℕ) (is : List Item) (k : ℕ) (d : Item) → suits sort is ≡ true → k < length is → tagFits sort (tagFor (getD is k d)) ≡ true
+unfolding suits
+suits-at sort [] k d h l = absurd (omega arith)
+suits-at sort (i ∷ is) zero d h l = and-true (tagFits sort (tagFor i)) (suits sort is) h .0
+suits-at sort (i ∷ is) (suc k) d h l = suits-at sort is k d (and-true (tagFits sort (tagFor i)) (suits sort is) h .1) (omega arith)
+
+-- of items one after the other, each
+pub suits-each : (sort : ℕ) (f : ℕ → Item) (n : ℕ) → suits sort (rowsTo f n) ≡ true → (k : ℕ) → k < n → tagFits sort (tagFor (f k)) ≡ true
+suits-each sort f n h k l = rw (getD-rows f n k (child 0) l) at (suits-at sort (rowsTo f n) k (child 0) h (rw (length-rows f n) l))
+
+-- The tag of an item is of the item's class, and a sort takes all of a class or none.
+tag-class : (s : List ℕ) (tag a b sort : ℕ) → tag ≤ 9 → tagFits sort (tagFor (itemOf s tag a b)) ≡ tagFits sort tag
+unfolding tagFor itemOf tagFits
+tag-class s tag a b sort h = by-tag (λ k. tagFits sort (tagFor (itemOf s k a b)) ≡ tagFits sort k) refl refl refl refl refl refl refl refl refl refl tag h
+
 -- the count, those that wait, and the tables of expressions, pointers and items
 abbrev own : List Range
 own = (0, 4) ∷ (32, 36) ∷ (64, 917588) ∷ []
@@ -169,7 +195,7 @@ own-lowering : {s t : List ℕ} → Wrote own s t → Wrote lowering s t
 unfolding Outside lowering
 own-lowering w = record { size = w .size; other = λ j o. w .other j (⊎-elim (λ z. inl (omega arith)) (λ z. inr (omega arith)) (o .0), (⊎-elim (λ z. inl (omega arith)) (λ z. inr (omega arith)) (o .1 .0), (⊎-elim (λ z. inl (omega arith)) (λ z. inr (omega arith)) (o .1 .1 .0), tt))) }
 
-module _ (s u t : List ℕ) (base count first n : ℕ) (r : Row) (p : Pointer) (number : n ≡ word s exprCount) (few : n < 16384) (begins : first ≡ word s (exprsAt + 20 * n))
+module _ (s u t : List ℕ) (base count first n : ℕ) (r : Row) (p : Pointer) (row-coded : fieldsCoded s (r .sort) (r .a) (r .b) ≡ true) (number : n ≡ word s exprCount) (few : n < 16384) (begins : first ≡ word s (exprsAt + 20 * n))
     (size : count ≡ length (drop base (waitingOf s))) (room : first + count ≤ 32768) (took : Took base count first s u) (put : PutRow n (first + count) r p u t) where
   alloc-wrote : Wrote own s t
   unfolding Outside
@@ -217,6 +243,22 @@ module _ (s u t : List ℕ) (base count first n : ℕ) (r : Row) (p : Pointer) (
   item-kept : (k : ℕ) → k < count → itemIn t (first + k) ≡ itemIn u (first + k)
   unfolding itemIn Outside
   item-kept k h = item-same u t (itemsAt + 12 * (first + k)) (put .still) (λ j a b. put .wrote .other j (inr (omega arith), (inr (omega arith), (inr (omega arith), tt))))
+
+  waiting-before : Same s t waitingAt 2785380
+  unfolding Outside
+  waiting-before j a b = put .wrote .other j (inr (omega arith), (inr (omega arith), (inr (omega arith), tt))) ∙ took .wrote .other j (inr (omega arith), (inr (omega arith), tt))
+
+  sort-before : (e : ℕ) → e < n → sortOf t e ≡ sortOf s e
+  unfolding sortOf
+  sort-before e h = rows-before (exprsAt + 20 * e + 4) (omega arith) (omega arith)
+
+  own-row-coded : rowCoded t n ≡ true
+  unfolding rowCoded
+  own-row-coded = rw (put .sort, put .a, put .b) (fields-still s t alloc-still (r .sort) (r .a) (r .b) ∙ row-coded)
+
+  own-word : (i to at : ℕ) → i + 4 ≤ 12 * count → to ≡ itemsAt + 12 * first + i → at ≡ waitingAt + 12 * base + i → word t to ≡ word s at
+  unfolding Outside
+  own-word i to at h p q = rw (p, q) (put .wrote .other (itemsAt + 12 * first + i) (inr (omega arith), (inr (omega arith), (inr (omega arith), tt))) ∙ took .moved i h)
 
   -- what waits from `base` on: nothing, or all between it and the count
   waits : (m : ℕ) → cap (word s waitingCount) waitingLimit ≡ m → drop base (waitingOf s) ≡ rowsTo (λ k. itemAt s (waitingAt + 12 * (base + k))) count
@@ -267,12 +309,11 @@ module _ (s u t : List ℕ) (base count first n : ℕ) (r : Row) (p : Pointer) (
   used-after = rw (counted-after, put .next)
 
   module _ (fine : Fine s) where
+    before : ExprsCoded s
+    before = exprs-coded fine
+
     first-below : (i : ℕ) → i ≤ n → firstItem s i ≤ first
-    first-below i h = go (ltb i n) refl
-      where
-        go : (b : Bool) → ltb i n ≡ b → firstItem s i ≤ first
-        go true e = let q = fine .below i (rw counted (ltb-true i n e)) in omega (arith, used-is)
-        go false e = let z : i ≡ n = omega (arith, ltb-false i n e) in rw z (omega (arith, first-last))
+    first-below i h = let q = firsts-rise before i n h (omega arith) in omega (arith, first-last)
 
     items-kept : (i : ℕ) → i < n → itemsOf t i ≡ itemsOf s i
     unfolding itemsOf
@@ -305,14 +346,62 @@ module _ (s u t : List ℕ) (base count first n : ℕ) (r : Row) (p : Pointer) (
     waiting-cut : waitingOf t ≡ take base (waitingOf s)
     waiting-cut = waiting-kept put-coarse (put .still) refl refl ∙ took .waiting
 
-    fine-after : Fine t
-    fine-after = record {
-      few = rw used-after room;
-      below = λ i h. below-after i (rw counted-after at h) (leb i n) refl;
-    }
+    -- the row's own items: their tags are such as its sort may have, their texts in use
+    own-coded : suits (r .sort) (drop base (waitingOf s)) ≡ true → (k : ℕ) → k < count → itemCoded t (r .sort) (first + k) ≡ true
+    unfolding itemCoded waitCoded itemAt
+    own-coded fit k h =
+        let tag : word t (itemsAt + 12 * (first + k)) ≡ word s (waitingAt + 12 * (base + k)) = own-word (12 * k) _ _ (omega arith) (omega arith) (omega arith) in
+        let a : word t (itemsAt + 12 * (first + k) + 4) ≡ word s (waitingAt + 12 * (base + k) + 4) = own-word (12 * k + 4) _ _ (omega arith) (omega arith) (omega arith) in
+        let few : base + k < cap (word s waitingCount) waitingLimit = omega (arith, length-waiting s, length-drop base (waitingOf s)) in
+        let c = and-true (leb (word s (waitingAt + 12 * (base + k))) 9) _ (fine .waits (base + k) few) in
+        let low = leb-true (word s (waitingAt + 12 * (base + k))) 9 (c .0) in
+        let fits = suits-each (r .sort) (λ j. itemAt s (waitingAt + 12 * (base + j))) count (rw (waits (cap (word s waitingCount) waitingLimit) refl) at fit) k h in
+        rw (tag, a, part-still s t alloc-still (word s (waitingAt + 12 * (base + k))) (word s (waitingAt + 12 * (base + k) + 4)))
+        (both (sym (tag-class s (word s (waitingAt + 12 * (base + k))) _ _ (r .sort) low) ∙ fits) (c .1))
+
+    exprs-after : suits (r .sort) (drop base (waitingOf s)) ≡ true → ExprsCoded t
+    exprs-after fit =
+        record {
+          few = rw (put .count) (omega arith);
+          begins = first-kept 0 (omega arith) ∙ before .begins;
+          rises = λ e h. rises e (rw (put .count) at h) (ltb e n) refl;
+          fewItems = rw (put .count, put .next) room;
+          rows = λ e h. rows e (rw (put .count) at h) (ltb e n) refl;
+          items = λ e j h l m. items e j (rw (put .count) at h) l m (ltb e n) refl;
+        }
       where
-        below-after : (i : ℕ) → i < n + 1 → (b : Bool) → leb i n ≡ b → firstItem t i ≤ usedOf t
-        below-after i h b e = let z = first-below i (omega arith) in rw (used-after, first-kept i (omega arith)) (omega arith)
+        rises : (e : ℕ) → e < n + 1 → (b : Bool) → ltb e n ≡ b → firstItem t e ≤ firstItem t (e + 1)
+        rises e h true k = let q = ltb-true e n k in rw (first-kept e (omega arith), first-kept (e + 1) (omega arith)) (before .rises e (omega arith))
+        rises e h false k = let z : e ≡ n = omega (arith, ltb-false e n k) in rw (z, first-kept n (omega arith), first-last, put .next) (omega arith)
+
+        rows : (e : ℕ) → e < n + 1 → (b : Bool) → ltb e n ≡ b → rowCoded t e ≡ true
+        rows e h true k = let q = ltb-true e n k in row-coded-same s t alloc-still e (λ j a b. rows-before j (omega arith) (omega arith)) ∙ before .rows e (omega arith)
+        rows e h false k = let z : e ≡ n = omega (arith, ltb-false e n k) in rw z (own-row-coded)
+
+        items : (e j : ℕ) → e < n + 1 → firstItem t e ≤ j → j < firstItem t (e + 1) → (b : Bool) → ltb e n ≡ b → itemCoded t (sortOf t e) j ≡ true
+        items e j h l m true k =
+            let q = ltb-true e n k in
+            let l′ : firstItem s e ≤ j = rw (first-kept e (omega arith)) at l in
+            let m′ : j < firstItem s (e + 1) = rw (first-kept (e + 1) (omega arith)) at m in
+            let top = first-below (e + 1) (omega arith) in
+            rw (sort-before e q) (item-coded-same s t alloc-still (sortOf s e) j (λ i a b. items-before i (omega arith) (omega arith)) ∙ before .items e j (omega arith) l′ m′)
+        items e j h l m false k =
+            let z : e ≡ n = omega (arith, ltb-false e n k) in
+            let l′ : first ≤ j = rw (z, first-kept n (omega arith), first-last) at l in
+            let m′ : j < first + count = rw (z, put .next) at m in
+            let i : j ≡ first + (j - first) = omega arith in
+            rw (z, put .sort, i) (own-coded fit (j - first) (omega arith))
+
+    waits-after : WaitsCoded t
+    waits-after i h =
+        let l = length-waiting s in
+        let few : i < cap (word s waitingCount) waitingLimit = omega (arith, length-waiting t, ap length waiting-cut, length-take base (waitingOf s)) in
+        let m = cap-lim (word s waitingCount) waitingLimit in
+        wait-coded-same s t alloc-still i (λ j a b. waiting-before j (omega arith) (omega arith)) ∙ fine .waits i few
+
+    fine-after : suits (r .sort) (drop base (waitingOf s)) ≡ true → Fine t
+    fine-after fit =
+        all-coded (exprs-after fit) (names-coded-kept alloc-wrote alloc-still refl refl (names-coded fine)) (diagnostics-coded-kept alloc-wrote alloc-still refl refl (diagnostics-coded fine)) waits-after
 
     pub alloc-is : (n, workOf t) ≡ takeRow (rowMade s r p) base (workOf s)
     unfolding workOf takeRow
@@ -322,8 +411,8 @@ module _ (s u t : List ℕ) (base count first n : ℕ) (r : Row) (p : Pointer) (
         let m : leb (first + count) itemLimit ≡ true = le-leb (first + count) itemLimit room in
         rw (a, l, used-is, ← size, m, state-more, waiting-cut, used-after, order-kept alloc-wrote refl refl)
 
-  pub row-allocated : Did (takeRow (rowMade s r p) base) s n t
-  row-allocated = record { wrote = own-lowering alloc-wrote; still = alloc-still; does = λ fine. (alloc-is fine, fine-after fine) }
+  pub row-allocated : Takes (r .sort) (rowMade s r p) base s n t
+  row-allocated = record { wrote = own-lowering alloc-wrote; still = alloc-still; does = λ fine fit. (alloc-is fine, fine-after fine fit) }
 
 -- ---- where there is no room
 pub fits-not : (a b : Bool) → (a ≡ false) ⊎ (b ≡ false) → a && b ≡ false
@@ -332,7 +421,11 @@ fits-not true b (inr e) = e
 fits-not false b o = refl
 
 pub nothing-done : {A : Type 0} {p : Step Work A} {s : List ℕ} {a : A} → (Fine s → (a, workOf s) ≡ p (workOf s)) → Did p s a s
-nothing-done h = record { wrote = record { size = refl; other = λ j o. refl }; still = record { same = refl }; does = λ fine. (h fine, fine) }
+nothing-done h = record { wrote = record { size = refl; other = λ j o. refl }; still = record { same = refl; used = refl }; does = λ fine. (h fine, fine) }
+
+-- a step that was done whatever is wanted
+pub did-where : {A C : Type 0} {p : Step Work A} {s t : List ℕ} {a : A} → Did p s a t → DidWhere C p s a t
+did-where d = record { wrote = d .wrote; still = d .still; does = λ fine c. d .does fine }
 
 pub row-full : (s : List ℕ) (make : List Item → Made) (base n : ℕ) → n ≡ word s exprCount → 16384 ≤ n → Did (takeRow make base) s 16384 s
 unfolding workOf takeRow stateOf
@@ -348,19 +441,6 @@ row-crowded s make base n first count e h f c l =
     nothing-done (λ fine. rw (a, ← f, ← c, fits-not (ltb (length (stateOf s .exprs)) exprLimit) (leb (first + count) itemLimit) (inr m)))
 
 -- ---- steps that leave the expressions alone
--- the count and the table stay, and so does what the invariant says
-pub fine-kept : {rs : List Range} {s t : List ℕ} → Wrote rs s t → apart (0, 4) rs ≡ true → apart (64, 327764) rs ≡ true → Fine s → Fine t
-unfolding usedOf firstItem
-fine-kept {s = s} {t = t} w a b fine =
-    let n = number-kept w exprCount a in
-    let v = same-on 64 327764 w b in
-    let l = cap-lim (word s exprCount) exprLimit in
-    let u : usedOf t ≡ usedOf s = rw n (v (exprsAt + 20 * cap (word s exprCount) exprLimit) (omega arith) (omega arith)) in
-    record {
-      few = rw u (fine .few);
-      below = λ e h. let k : e < cap (word s exprCount) exprLimit = rw n at h in rw (u, v (exprsAt + 20 * e) (omega arith) (omega arith)) (fine .below e k);
-    }
-
 pub used-kept : {rs : List Range} {s t : List ℕ} → Wrote rs s t → apart (0, 4) rs ≡ true → apart (64, 327764) rs ≡ true → usedOf t ≡ usedOf s
 unfolding usedOf firstItem
 used-kept {s = s} {t = t} w a b =
@@ -378,17 +458,33 @@ item-of-still : (s t : List ℕ) (tag a b : ℕ) → Still s t → itemOf t tag 
 unfolding itemOf
 item-of-still s t tag a b e = rw (text-still s t a e)
 
-pub item-pushed : (s u t : List ℕ) (i : Item) (r : ItemRow) (n at : ℕ) → Long s → itemOf s (r .tag) (r .a) (r .b) ≡ i → Small (r .tag ∷ r .a ∷ r .b ∷ []) → n ≡ word s waitingCount → n < 16384 → at ≡ waitingAt + 12 * n
+wait-put : (s t : List ℕ) (n : ℕ) (r : ItemRow) → Still s t → word t (waitingAt + 12 * n) ≡ r .tag → word t (waitingAt + 12 * n + 4) ≡ r .a → leb (r .tag) 9 ≡ true → partCoded s (r .tag) (r .a) ≡ true → waitCoded t n ≡ true
+unfolding waitCoded
+wait-put s t n r still a b low part = rw (a, b, low) (part-still s t still (r .tag) (r .a) ∙ part)
+
+waits-more : (s t : List ℕ) (n : ℕ) → n ≡ word s waitingCount → n < 16384 → word t waitingCount ≡ n + 1 → Still s t → Same s t waitingAt (waitingAt + 12 * n) → waitCoded t n ≡ true → WaitsCoded s → WaitsCoded t
+waits-more s t n e few c still before own waits i h = by (ltb i n) refl
+  where
+    below : i < n + 1
+    below = rw (c, cap-le (n + 1) waitingLimit (omega arith)) at h
+
+    by : (b : Bool) → ltb i n ≡ b → waitCoded t i ≡ true
+    by true k =
+        let q = ltb-true i n k in
+        wait-coded-same s t still i (λ j x y. before j (omega arith) (omega arith)) ∙ waits i (rw (← e, cap-le n waitingLimit (omega arith)) q)
+    by false k = let z : i ≡ n = omega (arith, below, ltb-false i n k) in rw z own
+
+pub item-pushed : (s u t : List ℕ) (i : Item) (r : ItemRow) (n at : ℕ) → Long s → itemOf s (r .tag) (r .a) (r .b) ≡ i → leb (r .tag) 9 ≡ true → partCoded s (r .tag) (r .a) ≡ true → Small (r .tag ∷ r .a ∷ r .b ∷ []) → n ≡ word s waitingCount → n < 16384 → at ≡ waitingAt + 12 * n
     → u ≡ setAll s at (r .tag ∷ r .a ∷ r .b ∷ []) → t ≡ setWord u 32 (n + 1) → Did (pushItem i) s tt t
 unfolding workOf pushItem lowering Outside stateOf itemAt
-item-pushed s u t i r n at long says small e few ea eu et =
+item-pushed s u t i r n at long says low part small e few ea eu et =
     let ws = r .tag ∷ r .a ∷ r .b ∷ [] in
     let lu : length u ≡ length s = rw eu (length-all s at ws) in
     let wrote : Wrote ((32, 36) ∷ (waitingAt, 2785380) ∷ []) s t = record {
       size = rw et (length-setWord u 32 (n + 1)) ∙ lu;
       other = λ j o. rw et (word-setWord-other u 32 (n + 1) j (o .0) ∙ rw eu (all-other s at ws j (⊎-elim (λ z. inl (omega arith)) (λ z. inr (omega arith)) (o .1 .0))));
     } in
-    let still : Still s t = still-then {u = u} (rw eu (still-all s at ws (omega arith))) (rw et (still-setWord u 32 (n + 1) (omega arith))) in
+    let still : Still s t = still-then {u = u} (rw eu (still-all s at ws (omega arith) (λ z. omega arith))) (rw et (still-setWord u 32 (n + 1) (omega arith) (λ z. omega arith))) in
     let row : (k j : ℕ) → k < 3 → j ≡ at + 4 * k → word t j ≡ getD ws k 0 = λ k j h q. rw et (word-setWord-other u 32 (n + 1) j (inr (omega arith)) ∙ rw eu (all-at s at ws small (omega arith) k j h q)) in
     let c : word t 32 ≡ n + 1 = rw et (word-setWord-same u 32 (n + 1) (omega arith) (omega arith)) in
     let before : Same s t waitingAt (waitingAt + 12 * n) = λ j p q. rw et (word-setWord-other u 32 (n + 1) j (inr (omega arith)) ∙ rw eu (all-other s at ws j (inl (omega arith)))) in
@@ -412,7 +508,11 @@ item-pushed s u t i r n at long says small e few ea eu et =
           used-kept wrote refl refl,
           order-kept wrote refl refl,
         ),
-        fine-kept wrote refl refl fine,
+        all-coded
+            (exprs-coded-kept wrote still refl refl refl (exprs-coded fine))
+            (names-coded-kept wrote still refl refl (names-coded fine))
+            (diagnostics-coded-kept wrote still refl refl (diagnostics-coded fine))
+            (waits-more s t n e few c still before (wait-put s t n r still (row 0 (waitingAt + 12 * n) (omega arith) (omega arith)) (row 1 (waitingAt + 12 * n + 4) (omega arith) (omega arith)) low part) (fine .waits)),
       );
     }
 
@@ -434,15 +534,32 @@ pub moved-as : (s u : List ℕ) (base first count a b c : ℕ) → a ≡ base �
 moved-as s u base first count a b c p q r e = rw (p, q, r) at e
 
 -- ---- one step for another that does the same
-did-as : {A : Type 0} {p q : Step Work A} {s t : List ℕ} {a : A} → p (workOf s) ≡ q (workOf s) → Did p s a t → Did q s a t
-did-as e d = record { wrote = d .wrote; still = d .still; does = λ fine. let z = d .does fine in (z .0 ∙ e, z .1) }
-
--- an expression by its row
-pub expr-allocated : (s t : List ℕ) (r : Row) (e : Expr) (p : Pointer) (base n : ℕ) → Says r e → Did (takeRow (rowMade s r p) base) s n t → Did (takeRow (exprMade s e p) base) s n t
+-- an expression by a row that says the same in the store
+same-row : (s : List ℕ) (r x : Row) (e : Expr) (p : Pointer) (base : ℕ) → Says x e → HeldRow x s r → takeRow (rowMade s r p) base (workOf s) ≡ takeRow (exprMade s e p) base (workOf s)
 unfolding takeRow rowMade exprMade pointerOr
-expr-allocated s t r e p base n says d = did-as (rw (says .same s (drop base (workOf s .waiting)), says .pointed)) d
+same-row s r x e p base says held = rw (held .same (drop base (workOf s .waiting)), held .sort-same, says .same s (drop base (workOf s .waiting)), says .pointed)
+
+pub expr-allocated : (s t : List ℕ) (x r : Row) (e : Expr) (p : Pointer) (base n : ℕ) → Says x e → HeldRow x s r → Takes (r .sort) (rowMade s r p) base s n t → Takes (sortFor e) (exprMade s e p) base s n t
+expr-allocated s t x r e p base n says held d =
+    record {
+      wrote = d .wrote;
+      still = d .still;
+      does = λ fine fit. let z = d .does fine (rw (held .sort-same, says .sort-is) fit) in (z .0 ∙ same-row s r x e p base says held, z .1);
+    }
 
 -- a Missing, before which nothing waits that it could take
-pub missing-allocated : (s t : List ℕ) (r : Row) (p : Pointer) (base n : ℕ) → base ≡ length (waitingOf s) → r .sort ≡ 0 → Did (takeRow (rowMade s r p) base) s n t → Did (takeLone holeMade) s n t
+none-suit : (sort : ℕ) (is : List Item) (base : ℕ) → base ≡ length is → suits sort (drop base is) ≡ true
+unfolding suits
+none-suit sort is base e = rw (drop-past is base (omega arith))
+
+same-missing : (s : List ℕ) (r : Row) (p : Pointer) (base : ℕ) → base ≡ length (waitingOf s) → r .sort ≡ 0 → takeRow (rowMade s r p) base (workOf s) ≡ takeLone holeMade (workOf s)
 unfolding takeRow takeLone rowMade holeMade pointerOr exprOf workOf
-missing-allocated s t r p base n e z d = did-as (rw (z, e)) d
+same-missing s r p base e z = rw (z, e)
+
+pub missing-allocated : (s t : List ℕ) (r : Row) (p : Pointer) (base n : ℕ) → base ≡ length (waitingOf s) → r .sort ≡ 0 → Takes (r .sort) (rowMade s r p) base s n t → Did (takeLone holeMade) s n t
+missing-allocated s t r p base n e z d =
+    record {
+      wrote = d .wrote;
+      still = d .still;
+      does = λ fine. let x = d .does fine (none-suit (r .sort) (waitingOf s) base e) in (x .0 ∙ same-missing s r p base e z, x .1);
+    }

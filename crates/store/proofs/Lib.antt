@@ -1,4 +1,6 @@
 pub mod CodeLaws
+pub mod HeldLaws
+pub mod CodedLaws
 pub mod ExprLaws
 pub mod NameLaws
 pub mod ClearLaws

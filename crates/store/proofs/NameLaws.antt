@@ -6,8 +6,8 @@ use mathlib.Core.List.{List, [], _∷_, _++_}
 use Prim.Native.Nat.{ℕ, zero, suc, _+_, _*_, _≤_, _<_, _^_}
 use native.Mathlib.Omega.{arith}
 use lib.ListN.{length, getD}
-use lib.Dec.{ltb}
-use borrow.Author.Tests.{lt-ltb, le-ltb}
+use lib.Dec.{ltb, leb}
+use borrow.Author.Tests.{lt-ltb, le-ltb, ltb-true, ltb-false}
 use Rattle.words.specs.Words.{word, setWord}
 use Rattle.words.proofs.WordLaws.{length-setWord, word-setWord-same, word-setWord-other}
 use Rattle.spec.specs.Basics.{Text}
@@ -17,6 +17,7 @@ use Rattle.module.specs.Ids.{pointerOf}
 use Rattle.module.specs.Kinds.{kindOf, numberOfKind}
 use Rattle.module.specs.declared.pointer.Pointer as code
 use Rattle.module.specs.declared.kinds.NameKind as code-kinds
+use Rattle.module.specs.declared.kinds.NameKind.the-variants as kinds
 use Rattle.module.proofs.KindLaws.{name-kind-back}
 use Rattle.layout.specs.Layout.{Long, nameCount, namesAt, namePointersAt, nameLimit, diagnosticCount, diagnosticsAt, diagnosticLimit, lostCount, lostAt}
 use Rattle.layout.specs.Rows.{cap, rowsTo, setAll}
@@ -28,7 +29,10 @@ use Rattle.store.specs.Work.{Work, workOf, withState, nameWith, putName,
 use Rattle.layout.proofs.RowLaws.{rows-same, length-rows, cap-le, cap-over, cap-lim}
 use Rattle.layout.proofs.Frames.{Same, apart, same-on, text-still, pointer-same, name-same, diagnostic-same, number-kept, exprs-kept, names-kept, diagnostics-kept, lost-kept, sets-kept, entries-kept, waiting-kept, order-kept}
 use Rattle.layout.proofs.WriteLaws.{still-setWord, still-all, still-then, Small, length-all, all-other, all-at}
-use Rattle.store.proofs.ExprLaws.{fits-not, nothing-done, fine-kept, used-kept}
+use Rattle.soundness.specs.Sound.{textFits, nameRowFits}
+use Rattle.store.specs.Codes.{Held}
+use Rattle.store.proofs.ExprLaws.{fits-not, nothing-done, used-kept}
+use Rattle.store.proofs.CodedLaws.{NamesCoded, DiagnosticsCoded, exprs-coded, names-coded, diagnostics-coded, all-coded, fits-still, name-coded-same, exprs-coded-kept, names-coded-kept, diagnostics-coded-kept, waits-coded-kept}
 
 -- ---- pointers
 -- a pointer that was written
@@ -53,10 +57,30 @@ names-more s t n x e few c still names pointers own =
     let z : n + 1 ≡ suc n = omega arith in
     rw (c, ← e, cap-le (n + 1) nameLimit (omega arith), cap-le n nameLimit (omega arith), z, own) (ap (λ l. l ++ (x ∷ [])) (rows-same (nameIn t) (nameIn s) n (λ i h. name-same s t i still (λ j a b. names j (omega arith) (omega arith)) (λ j a b. pointers j (omega arith) (omega arith)))))
 
-pub name-put : (s u v t : List ℕ) (k : code-kinds.NameKind) (p : code.Pointer) (text number n at to : ℕ) → Long s → n ≡ word s nameCount → n < 4096 → number ≡ numberOfKind k → text < 2 ^ 32 → number < 2 ^ 32 → Small (p .kind ∷ p .from ∷ p .to ∷ []) → at ≡ namesAt + 8 * n → to ≡ namePointersAt + 12 * n
+-- a kind has one of five numbers
+kind-low : (k : code-kinds.NameKind) → leb (numberOfKind k) 4 ≡ true
+unfolding numberOfKind
+kind-low kinds.LetIn = refl
+kind-low kinds.PlainAttrset = refl
+kind-low kinds.RecAttrset = refl
+kind-low kinds.Param = refl
+kind-low kinds.PatField = refl
+
+name-row-put : (s t : List ℕ) (k : code-kinds.NameKind) (text number n : ℕ) → Still s t → number ≡ numberOfKind k → word t (namesAt + 8 * n) ≡ text → word t (namesAt + 8 * n + 4) ≡ number → textFits s text ≡ true → nameRowFits t n ≡ true
+unfolding nameRowFits
+name-row-put s t k text number n still e a b fits = rw (a, b, e, fits-still s t still text, fits, kind-low k)
+
+names-coded-more : (s t : List ℕ) (n : ℕ) → n ≡ word s nameCount → n < 4096 → word t nameCount ≡ n + 1 → Still s t → Same s t namesAt (namesAt + 8 * n) → nameRowFits t n ≡ true → NamesCoded s → NamesCoded t
+names-coded-more s t n e few c still before own x = record { few = rw c (omega arith); rows = λ y h. by y (rw c at h) (ltb y n) refl }
+  where
+    by : (y : ℕ) → y < n + 1 → (b : Bool) → ltb y n ≡ b → nameRowFits t y ≡ true
+    by y h true k = let q = ltb-true y n k in name-coded-same s t still y (λ j a b. before j (omega arith) (omega arith)) ∙ x .rows y (omega arith)
+    by y h false k = let z : y ≡ n = omega (arith, ltb-false y n k) in rw z own
+
+pub name-put : (s u v t : List ℕ) (k : code-kinds.NameKind) (p : code.Pointer) (text number n at to : ℕ) → textFits s text ≡ true → Long s → n ≡ word s nameCount → n < 4096 → number ≡ numberOfKind k → text < 2 ^ 32 → number < 2 ^ 32 → Small (p .kind ∷ p .from ∷ p .to ∷ []) → at ≡ namesAt + 8 * n → to ≡ namePointersAt + 12 * n
     → u ≡ setAll s at (text ∷ number ∷ []) → v ≡ setAll u to (p .kind ∷ p .from ∷ p .to ∷ []) → t ≡ setWord v 4 (n + 1) → Did (putName (nameWith (textIn s text) (kindOf k) (pointerOf p))) s n t
 unfolding workOf putName withState stateOf lowering Outside nameWith
-name-put s u v t k p text number n at to long e few en ht hn hp ea et eu ev ew =
+name-put s u v t k p text number n at to fits long e few en ht hn hp ea et eu ev ew =
     let ws = text ∷ number ∷ [] in
     let ps = p .kind ∷ p .from ∷ p .to ∷ [] in
     let lu : length u ≡ length s = rw eu (length-all s at ws) in
@@ -65,7 +89,7 @@ name-put s u v t k p text number n at to long e few en ht hn hp ea et eu ev ew =
       size = rw ew (length-setWord v 4 (n + 1)) ∙ lv ∙ lu;
       other = λ j o. rw ew (word-setWord-other v 4 (n + 1) j (o .0) ∙ rw ev (all-other u to ps j (⊎-elim (λ z. inl (omega arith)) (λ z. inr (omega arith)) (o .1 .0)) ∙ rw eu (all-other s at ws j (⊎-elim (λ z. inl (omega arith)) (λ z. inr (omega arith)) (o .1 .0)))));
     } in
-    let still : Still s t = still-then {u = u} (rw eu (still-all s at ws (omega arith))) (still-then {u = v} (rw ev (still-all u to ps (omega arith))) (rw ew (still-setWord v 4 (n + 1) (omega arith)))) in
+    let still : Still s t = still-then {u = u} (rw eu (still-all s at ws (omega arith) (λ z. omega arith))) (still-then {u = v} (rw ev (still-all u to ps (omega arith) (λ z. omega arith))) (rw ew (still-setWord v 4 (n + 1) (omega arith) (λ z. omega arith)))) in
     let c : word t 4 ≡ n + 1 = rw ew (word-setWord-same v 4 (n + 1) (omega arith) (omega arith)) in
     let row : (i j : ℕ) → i < 2 → j ≡ at + 4 * i → word t j ≡ getD ws i 0 = λ i j h q. rw ew (word-setWord-other v 4 (n + 1) j (inr (omega arith)) ∙ rw ev (all-other u to ps j (inl (omega arith)) ∙ rw eu (all-at s at ws (ht, (hn, tt)) (omega arith) i j h q))) in
     let pointer : pointerAt t (namePointersAt + 12 * n) ≡ pointerOf p = pointer-same v t (namePointersAt + 12 * n) (λ j a b. rw ew (word-setWord-other v 4 (n + 1) j (inr (omega arith)))) ∙ pointer-put u v to (namePointersAt + 12 * n) p et (omega arith) hp ev in
@@ -92,9 +116,17 @@ name-put s u v t k p text number n at to long e few en ht hn hp ea et eu ev ew =
           used-kept wrote refl refl,
           order-kept wrote refl refl,
         ),
-        fine-kept wrote refl refl fine,
+        all-coded
+            (exprs-coded-kept wrote still refl refl refl (exprs-coded fine))
+            (names-coded-more s t n e few c still names (name-row-put s t k text number n still en (row 0 (namesAt + 8 * n) (omega arith) (omega arith)) (row 1 (namesAt + 8 * n + 4) (omega arith) (omega arith)) fits) (names-coded fine))
+            (diagnostics-coded-kept wrote still refl refl (diagnostics-coded fine))
+            (waits-coded-kept wrote still refl refl (fine .waits)),
       );
     }
+
+-- the same by a number that the text has within the bytes in use
+pub name-held : {s t : List ℕ} (k : NameKind) (p : Pointer) {given text n : ℕ} → Held given s text → Did (putName (nameWith (textIn s text) k p)) s n t → Did (putName (nameWith (textIn s given) k p)) s n t
+name-held k p h d = rw (h .same) at d
 
 pub name-full : (s : List ℕ) (x : Name) (n : ℕ) → n ≡ word s nameCount → 4096 ≤ n → Did (putName x) s 4096 s
 unfolding workOf putName stateOf
@@ -121,7 +153,7 @@ diagnostic-put s u v w t first second key n a b c long few hk hf hs ea eb ec eu 
             ∙ rw ev (all-other u b fs j (⊎-elim (λ z. inl (omega arith)) (λ z. inr (omega arith)) (o .1 .0))
             ∙ rw eu (word-setWord-other s a key j (⊎-elim (λ z. inl (omega arith)) (λ z. inr (omega arith)) (o .1 .0))))));
       };
-      still = still-then {u = u} (rw eu (still-setWord s a key (omega arith))) (still-then {u = v} (rw ev (still-all u b fs (omega arith))) (still-then {u = w} (rw ew (still-all v c ss (omega arith))) (rw et (still-setWord w 8 (n + 1) (omega arith)))));
+      still = still-then {u = u} (rw eu (still-setWord s a key (omega arith) (λ z. omega arith))) (still-then {u = v} (rw ev (still-all u b fs (omega arith) (λ z. omega arith))) (still-then {u = w} (rw ew (still-all v c ss (omega arith) (λ z. omega arith))) (rw et (still-setWord w 8 (n + 1) (omega arith) (λ z. omega arith)))));
       count = rw et (word-setWord-same w 8 (n + 1) (omega arith) (omega arith));
       key-is = rw et (word-setWord-other w 8 (n + 1) (diagnosticsAt + 28 * n) (inr (omega arith)) ∙ rw ew (all-other v c ss (diagnosticsAt + 28 * n) (inl (omega arith)) ∙ rw ev (all-other u b fs (diagnosticsAt + 28 * n) (inl (omega arith)) ∙ rw (eu, ea) (word-setWord-same s (diagnosticsAt + 28 * n) key (omega arith) hk))));
       first-is = pointer-same v t (diagnosticsAt + 28 * n + 4) (λ j x y. rw et (word-setWord-other w 8 (n + 1) j (inr (omega arith)) ∙ rw ew (all-other v c ss j (inl (omega arith))))) ∙ pointer-put u v b (diagnosticsAt + 28 * n + 4) first eb (omega arith) hf ev;
@@ -155,10 +187,18 @@ diagnostic-own : (s t : List ℕ) (first second : Pointer) (key n : ℕ) → Sti
 unfolding diagnosticIn
 diagnostic-own s t first second key n still a b c = rw (a, b, c, text-still s t key still)
 
-pub duplicate-put : (s u v t : List ℕ) (first : code.Pointer) (second : Pointer) (key n m at : ℕ) → Long s → n ≡ word s diagnosticCount → n < 32768 → m ≡ word s lostCount → m < 32768 → Small (first .kind ∷ first .from ∷ first .to ∷ []) → at ≡ lostAt + 12 * m
-    → PutDiagnostic n key (pointerOf first) second s u → v ≡ setAll u at (first .kind ∷ first .from ∷ first .to ∷ []) → t ≡ setWord v 12 (m + 1) → Did (putDuplicate (textIn s key) (pointerOf first) second) s tt t
+diagnostics-coded-more : (s t : List ℕ) (n m key : ℕ) → n ≡ word s diagnosticCount → n < 32768 → word t diagnosticCount ≡ n + 1 → m < 32768 → word t lostCount ≡ m + 1 → Still s t → Same s t diagnosticsAt (diagnosticsAt + 28 * n)
+    → word t (diagnosticsAt + 28 * n) ≡ key → textFits s key ≡ true → DiagnosticsCoded s → DiagnosticsCoded t
+diagnostics-coded-more s t n m key e few c fewer d still before own fits x = record { few = rw c (omega arith); fewLost = rw d (omega arith); rows = λ i h. by i (rw c at h) (ltb i n) refl }
+  where
+    by : (i : ℕ) → i < n + 1 → (b : Bool) → ltb i n ≡ b → textFits t (word t (diagnosticsAt + 28 * i)) ≡ true
+    by i h true k = let q = ltb-true i n k in rw (before (diagnosticsAt + 28 * i) (omega arith) (omega arith)) (fits-still s t still (word s (diagnosticsAt + 28 * i)) ∙ x .rows i (omega arith))
+    by i h false k = let z : i ≡ n = omega (arith, ltb-false i n k) in rw (z, own) (fits-still s t still key ∙ fits)
+
+pub duplicate-put : (s u v t : List ℕ) (first : code.Pointer) (second : Pointer) (given key n m at : ℕ) → Held given s key → Long s → n ≡ word s diagnosticCount → n < 32768 → m ≡ word s lostCount → m < 32768 → Small (first .kind ∷ first .from ∷ first .to ∷ []) → at ≡ lostAt + 12 * m
+    → PutDiagnostic n key (pointerOf first) second s u → v ≡ setAll u at (first .kind ∷ first .from ∷ first .to ∷ []) → t ≡ setWord v 12 (m + 1) → Did (putDuplicate (textIn s given) (pointerOf first) second) s tt t
 unfolding workOf putDuplicate withState addDuplicate stateOf lowering Outside
-duplicate-put s u v t first second key n m at long en few em fewer hp ea put ev et =
+duplicate-put s u v t first second given key n m at held long en few em fewer hp ea put ev et =
     let ps = first .kind ∷ first .from ∷ first .to ∷ [] in
     let lu = put .wrote .size in
     let lv : length v ≡ length u = rw ev (length-all u at ps) in
@@ -169,16 +209,18 @@ duplicate-put s u v t first second key n m at long en few em fewer hp ea put ev 
           after j (⊎-elim (λ z. inl (omega arith)) (λ z. inr (omega arith)) (o .0)) (⊎-elim (λ z. inl (omega arith)) (λ z. inr (omega arith)) (o .1 .0))
           ∙ put .wrote .other j (⊎-elim (λ z. inl (omega arith)) (λ z. inr (omega arith)) (o .0), (⊎-elim (λ z. inl (omega arith)) (λ z. inr (omega arith)) (o .1 .0), tt));
     } in
-    let still-u : Still u t = still-then {u = v} (rw ev (still-all u at ps (omega arith))) (rw et (still-setWord v 12 (m + 1) (omega arith))) in
+    let still-u : Still u t = still-then {u = v} (rw ev (still-all u at ps (omega arith) (λ z. omega arith))) (rw et (still-setWord v 12 (m + 1) (omega arith) (λ z. omega arith))) in
     let still : Still s t = still-then {u = u} (put .still) still-u in
     let dc : word t 8 ≡ n + 1 = after 8 (inl (omega arith)) (inl (omega arith)) ∙ put .count in
     let lc : word t 12 ≡ m + 1 = rw et (word-setWord-same v 12 (m + 1) (omega arith) (omega arith)) in
     let in-diagnostics : Same u t diagnosticsAt lostAt = λ j a b. after j (inr (omega arith)) (inl (omega arith)) in
-    let d-own = diagnostic-own s t (pointerOf first) second key n still
+    let key-is : word t (diagnosticsAt + 28 * n) ≡ key = in-diagnostics (diagnosticsAt + 28 * n) (omega arith) (omega arith) ∙ put .key-is in
+    let d-own : diagnosticIn t n ≡ duplicate (textIn s given) (pointerOf first) second = rw (held .same) at (diagnostic-own s t (pointerOf first) second key n still
     (in-diagnostics (diagnosticsAt + 28 * n) (omega arith) (omega arith) ∙ put .key-is)
     (pointer-same u t (diagnosticsAt + 28 * n + 4) (λ j a b. in-diagnostics j (omega arith) (omega arith)) ∙ put .first-is)
-    (pointer-same u t (diagnosticsAt + 28 * n + 16) (λ j a b. in-diagnostics j (omega arith) (omega arith)) ∙ put .second-is) in
-    let ds = diagnostics-more s t n (duplicate (textIn s key) (pointerOf first) second) en few dc still (λ j a b. in-diagnostics j (omega arith) (omega arith) ∙ put .wrote .other j (inr (omega arith), (inl (omega arith), tt))) d-own in
+    (pointer-same u t (diagnosticsAt + 28 * n + 16) (λ j a b. in-diagnostics j (omega arith) (omega arith)) ∙ put .second-is)) in
+    let above : Same s t diagnosticsAt (diagnosticsAt + 28 * n) = λ j a b. in-diagnostics j (omega arith) (omega arith) ∙ put .wrote .other j (inr (omega arith), (inl (omega arith), tt)) in
+    let ds = diagnostics-more s t n (duplicate (textIn s given) (pointerOf first) second) en few dc still (λ j a b. in-diagnostics j (omega arith) (omega arith) ∙ put .wrote .other j (inr (omega arith), (inl (omega arith), tt))) d-own in
     let l-own : pointerAt t (lostAt + 12 * m) ≡ pointerOf first = pointer-same v t (lostAt + 12 * m) (λ j a b. rw et (word-setWord-other v 12 (m + 1) j (inr (omega arith)))) ∙ pointer-put u v at (lostAt + 12 * m) first ea (omega arith) hp ev in
     let ls = lost-more s t m (pointerOf first) em fewer lc (λ j a b. after j (inr (omega arith)) (inl (omega arith)) ∙ put .wrote .other j (inr (omega arith), (inr (omega arith), tt))) l-own in
     let r1 : ltb (length (diagnosticsOf s)) diagnosticLimit ≡ true = lt-ltb (length (diagnosticsOf s)) diagnosticLimit (omega (arith, length-diagnostics s, cap-le (word s diagnosticCount) diagnosticLimit (omega arith))) in
@@ -200,7 +242,11 @@ duplicate-put s u v t first second key n m at long en few em fewer hp ea put ev 
           used-kept wrote refl refl,
           order-kept wrote refl refl,
         ),
-        fine-kept wrote refl refl fine,
+        all-coded
+            (exprs-coded-kept wrote still refl refl refl (exprs-coded fine))
+            (names-coded-kept wrote still refl refl (names-coded fine))
+            (diagnostics-coded-more s t n m key en few dc fewer lc still above key-is (held .fits) (diagnostics-coded fine))
+            (waits-coded-kept wrote still refl refl (fine .waits)),
       );
     }
 

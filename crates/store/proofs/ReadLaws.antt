@@ -165,7 +165,7 @@ pub entry-set : (s t : List ℕ) (e : ℕ) → Long s → e < 2 ^ 32 → t ≡ s
 unfolding Outside moduleIn stateOf
 entry-set s t e long h q =
     let wrote : Wrote ((16, 20) ∷ []) s t = record { size = rw q (length-setWord s 16 e); other = λ j o. rw q (word-setWord-other s 16 e j (o .0)) } in
-    let still : Still s t = rw q (still-setWord s 16 e (omega arith)) in
+    let still : Still s t = rw q (still-setWord s 16 e (omega arith) (λ z. omega arith)) in
     let w : word t entryPlace ≡ e = rw q (word-setWord-same s 16 e (omega arith) h) in
     record {
       wrote = wrote;

@@ -1,6 +1,6 @@
 -- The work of lowering in a store, and its steps. A step that finds no room leaves everything as it was.
 use mathlib.Core.Path.{_≡_}
-use mathlib.Core.Bool.{_&&_}
+use mathlib.Core.Bool.{Bool, true, _&&_}
 use mathlib.Core.List.{List, [], _∷_, _++_}
 use Prim.Native.Nat.{ℕ, _+_, _*_, _≤_, _<_}
 use lib.ListN.{length, take, drop}
@@ -11,11 +11,13 @@ use Rattle.spec.specs.Module.{Pointer, Made, NameKind, Name, DuplicateKey}
 use Rattle.spec.specs.Steps.{Step}
 use Rattle.spec.specs.State.{State, state, empty, newMade, addDuplicate}
 use Rattle.store.specs.declared.codes.Row.{Row}
-use Rattle.layout.specs.Layout.{exprCount, entryPlace, scopeCount, spentPlace, textsPlace, scopesAt, firstsAt, diagnosticCount, diagnosticsAt, exprsAt, exprPointersAt, itemsAt, waitingAt, exprLimit, nameLimit, diagnosticLimit, itemLimit, waitingLimit}
+use Rattle.layout.specs.Layout.{exprCount, entryPlace, scopeCount, spentPlace, textsPlace, scopesAt, firstsAt, diagnosticCount, diagnosticsAt, exprsAt, exprPointersAt, itemsAt, waitingAt, sheetAt, waitingCount, exprLimit, nameLimit, diagnosticLimit, itemLimit, waitingLimit}
 use Rattle.layout.specs.Rows.{cap}
 use Rattle.layout.specs.Changes.{Range, Wrote, Still}
-use Rattle.layout.specs.Exprs.{Item, itemAt, itemIn, firstItem, sortOf, pointerAt}
+use Rattle.layout.specs.Exprs.{Item, child, text, field, static, dynamic, itemAt, itemIn, firstItem, sortOf, pointerAt}
 use Rattle.layout.specs.States.{stateOf, waitingOf, usedOf, orderOf}
+use Rattle.soundness.specs.Sound.{tagFits}
+use Rattle.soundness.specs.Coded.{partCoded, Coded}
 
 -- the module so far and the open sets; the items that wait for their expression; how many items are in use; the run: the numbers of the open sets' entries, in the
 -- order of sets and keys
@@ -74,10 +76,27 @@ putDuplicate key first second w =
 unfoldable pub lowering : List Range
 lowering = (0, 16) ∷ (32, 48) ∷ (64, 2310228) ∷ (2588772, 2998372) ∷ []
 
--- No row reaches past the items in use, and these fit.
+-- ---- which items an expression may have
+-- a tag of the item's class
+unfoldable pub tagFor : Item → ℕ
+tagFor (child e) = 0
+tagFor (text t) = 1
+tagFor (field x d) = 2
+tagFor (static x v) = 6
+tagFor (dynamic k v) = 9
+
+unfoldable pub suits : ℕ → List Item → Bool
+suits sort [] = true
+suits sort (i ∷ is) = tagFits sort (tagFor i) && suits sort is
+
+-- an item that waits: a tag that there is, and of a literal part a text in use
+unfoldable pub waitCoded : List ℕ → ℕ → Bool
+waitCoded s i = leb (word s (waitingAt + 12 * i)) 9 && partCoded s (word s (waitingAt + 12 * i)) (word s (waitingAt + 12 * i + 4))
+
+-- The rows of the module and the items that wait are what decoding takes them for.
 pub record Fine (s : List ℕ) : Type 0 where
-  pub few : usedOf s ≤ itemLimit
-  pub below : (e : ExprId) → e < cap (word s exprCount) exprLimit → firstItem s e ≤ usedOf s
+  pub coded : Coded s
+  pub waits : (i : ℕ) → i < cap (word s waitingCount) waitingLimit → waitCoded s i ≡ true
 
 -- From the store s the step gave r and left the store t; the nodes, the texts and all that does not belong to lowering are as they were.
 pub record Did {A : Type 0} (p : Working A) (s : List ℕ) (r : A) (t : List ℕ) : Type 0 where
@@ -85,12 +104,23 @@ pub record Did {A : Type 0} (p : Working A) (s : List ℕ) (r : A) (t : List ℕ
   pub still : Still s t
   pub does : Fine s → ((r, workOf t) ≡ p (workOf s)) × Fine t
 
+-- The same of a step that wants something of its arguments.
+pub record DidWhere {A : Type 0} (wanted : Type 0) (p : Working A) (s : List ℕ) (r : A) (t : List ℕ) : Type 0 where
+  pub wrote : Wrote lowering s t
+  pub still : Still s t
+  pub does : Fine s → wanted → ((r, workOf t) ≡ p (workOf s)) × Fine t
+
+-- an expression of a sort takes the items that wait from `base` on, if they are such as it may have
+abbrev pub Takes : ℕ → (List Item → Made) → ℕ → List ℕ → ExprId → List ℕ → Type 0
+Takes sort make base s r t = DidWhere (suits sort (drop base (waitingOf s)) ≡ true) (takeRow make base) s r t
+
 -- ---- the parts of an append
 -- `count` items that waited from `base` on lie in the table from `first` on, and wait no longer
 pub record Took (base count first : ℕ) (s t : List ℕ) : Type 0 where
   pub wrote : Wrote ((32, 36) ∷ (itemsAt + 12 * first, itemsAt + 12 * (first + count)) ∷ []) s t
   pub still : Still s t
   pub items : (j : ℕ) → j < count → itemIn t (first + j) ≡ itemAt s (waitingAt + 12 * (base + j))
+  pub moved : (i : ℕ) → i + 4 ≤ 12 * count → word t (itemsAt + 12 * first + i) ≡ word s (waitingAt + 12 * base + i)
   pub waiting : waitingOf t ≡ take base (waitingOf s)
 
 -- the row n, its pointer and where the next one's items begin
@@ -124,7 +154,7 @@ clearing = (0, 44) ∷ (64, 68) ∷ (2441300, 2441304) ∷ (2506848, 2506852) �
 
 pub record Cleared (s t : List ℕ) : Type 0 where
   pub wrote : Wrote clearing s t
-  pub still : Still s t
+  pub same : drop sheetAt t ≡ drop sheetAt s
   pub work : workOf t ≡ noWork
   pub fine : Fine t
   pub entry : word t entryPlace ≡ 0

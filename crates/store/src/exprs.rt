@@ -1,5 +1,6 @@
 // Expressions are appended: a row, its pointer, and the items that waited for it.
 ghost use mathlib.Core.Path.{_≡_};
+ghost use mathlib.Core.Bool.{true};
 ghost use mathlib.Core.Option.{none, some};
 ghost use Prim.Native.Nat.{_+_, _*_, _≤_, _<_};
 ghost use lib.ListN.{length, drop};
@@ -8,11 +9,14 @@ ghost use Rattle.module.specs.Ids.{pointerOf};
 ghost use Rattle.layout.specs.Layout.{Long};
 ghost use Rattle.layout.specs.Texts.{textIn};
 ghost use Rattle.layout.specs.States.{waitingOf};
-ghost use Rattle.store.specs.Codes.{ValidExpr, itemWith, rowMade, exprMade, holeMade};
-ghost use Rattle.store.specs.Work.{Did, pushItem, takeRow, takeLone, Took, PutRow};
+ghost use Rattle.soundness.specs.Coded.{fieldsCoded};
+ghost use Rattle.store.specs.Codes.{ValidExpr, sortFor, itemWith, rowMade, exprMade, holeMade};
+ghost use Rattle.store.specs.Work.{Did, Takes, pushItem, takeLone, Took, PutRow};
 use crate::codes::Row;
 use crate::codes::item_row;
 use crate::codes::row_of;
+use crate::held::held_item;
+use crate::held::held_row;
 use layout::at_most;
 use layout::counter;
 use layout::put_five;
@@ -51,7 +55,7 @@ pub fn push_item(store: &mut [u8], i: Item)
 {
     let count = counter(store, 32);
     if count.has_room(16384) {
-        let row = item_row(i);
+        let row = held_item(store, item_row(i));
         let next = count.next();
         put_three(
             store,
@@ -111,8 +115,8 @@ fn put_row(store: &mut [u8], count: Counter, end: u32, row: Row, p: Pointer)
 
 // An expression whose items are those that wait from `base` on.
 fn alloc_row(store: &mut [u8], row: Row, base: u32, p: Pointer) -> ExprId
-    requires { ⌜ Long (now store) ⌝ }
-    ensures { λ r. ⌜ Did (takeRow (rowMade (now (store .entry)) row (pointerOf p)) base) (now (store .entry)) (r .0) (now (store .exit)) ⌝ }
+    requires { ⌜ Long (now store) × (fieldsCoded (now store) (row .sort) (row .a) (row .b) ≡ true) ⌝ }
+    ensures { λ r. ⌜ Takes (row .sort) (rowMade (now (store .entry)) row (pointerOf p)) base (now (store .entry)) (r .0) (now (store .exit)) ⌝ }
 {
     let count = counter(store, 0);
     if count.has_room(16384) {
@@ -131,9 +135,10 @@ fn alloc_row(store: &mut [u8], row: Row, base: u32, p: Pointer) -> ExprId
 // alloc_expr: an expression with a pointer, whose items are those that wait from `base` on.
 pub fn alloc_expr(store: &mut [u8], e: Expr, base: u32, p: Pointer) -> ExprId
     requires { ⌜ Long (now store) × ValidExpr e ⌝ }
-    ensures { λ r. ⌜ Did (takeRow (exprMade (now (store .entry)) e (pointerOf p)) base) (now (store .entry)) (r .0) (now (store .exit)) ⌝ }
+    ensures { λ r. ⌜ Takes (sortFor e) (exprMade (now (store .entry)) e (pointerOf p)) base (now (store .entry)) (r .0) (now (store .exit)) ⌝ }
 {
-    alloc_row(store, row_of(e), base, p)
+    let row = held_row(store, row_of(e));
+    alloc_row(store, row, base, p)
 }
 
 // "Missing without a pointer": it has no items, and leaves those that wait.

@@ -6,6 +6,7 @@ mod codes;
 mod decode;
 mod exprs;
 mod header;
+mod held;
 mod names;
 mod read_counts;
 mod read_diagnostics;

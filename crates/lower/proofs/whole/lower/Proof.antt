@@ -4,8 +4,8 @@ use Rattle.lower.proofs.ModuleLaws.{lowered-all}
 use Rattle.lower.proofs.whole.lower.Statement.{statement}
 use Rattle.lower.proofs.whole.lower.Tie as tie
 
-lower-expr-requires : tie.Need-lower-expr-requires
-lower-expr-requires c κs = search needs
+expr-requires : tie.Need-expr-requires
+expr-requires c κs = search needs
 
 set-entry-requires : tie.Need-set-entry-requires
 set-entry-requires c κs = search needs
@@ -14,7 +14,7 @@ same-length : tie.Need-same-length
 same-length c = search needs
 
 returns : tie.Need-returns
-returns c = lowered-all _ _ _ _ (c .before .before .before .before .before .before .lower-expr .ensures) (c .before .before .set-entry .ensures)
+returns c = lowered-all _ _ _ _ (c .before .before .before .before .before .before .expr .ensures) (c .before .before .set-entry .ensures)
 
 pub lower-spec : {M : Type 1} → statement M
-lower-spec = tie.close (tie.spec lower-expr-requires set-entry-requires same-length returns)
+lower-spec = tie.close (tie.spec expr-requires set-entry-requires same-length returns)

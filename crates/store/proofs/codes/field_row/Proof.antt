@@ -27,19 +27,19 @@ enum-known-default-2 c = search needs
 
 returns : tie.Need-returns
 unfolding rows.itemOf itemWith nameOf exprOf
-returns c = rw (c .before .before .enum-told .given .1, c .enum-told2 .given .1) (record { same = λ s. refl })
+returns c = rw (c .before .before .enum-told .given .1, c .enum-told2 .given .1) (record { same = λ s. refl; in-range = refl })
 
 returns-2 : tie.Need-returns-2
 unfolding rows.itemOf itemWith nameOf exprOf
-returns-2 c = rw (c .before .before .before .enum-told .given .1, c .before .default .given .1) (record { same = λ s. refl })
+returns-2 c = rw (c .before .before .before .enum-told .given .1, c .before .default .given .1) (record { same = λ s. refl; in-range = refl })
 
 returns-3 : tie.Need-returns-3
 unfolding rows.itemOf itemWith nameOf exprOf
-returns-3 c = rw (c .before .before .before .x .given .1, c .enum-told3 .given .1) (record { same = λ s. refl })
+returns-3 c = rw (c .before .before .before .x .given .1, c .enum-told3 .given .1) (record { same = λ s. refl; in-range = refl })
 
 returns-4 : tie.Need-returns-4
 unfolding rows.itemOf itemWith nameOf exprOf
-returns-4 c = rw (c .before .before .before .before .x .given .1, c .before .default2 .given .1) (record { same = λ s. refl })
+returns-4 c = rw (c .before .before .before .before .x .given .1, c .before .default2 .given .1) (record { same = λ s. refl; in-range = refl })
 
 pub field-row-spec : {M : Type 1} → statement M
 field-row-spec =

@@ -29,11 +29,11 @@ enum-known-i-5 c = search needs
 
 returns : tie.Need-returns
 unfolding rows.itemOf itemWith
-returns c = rw (c .before .i .given .1) (record { same = λ s. refl })
+returns c = rw (c .before .i .given .1) (record { same = λ s. refl; in-range = refl })
 
 returns-2 : tie.Need-returns-2
 unfolding rows.itemOf itemWith
-returns-2 c = rw (c .before .i2 .given .1) (record { same = λ s. refl })
+returns-2 c = rw (c .before .i2 .given .1) (record { same = λ s. refl; in-range = refl })
 
 returns-3 : tie.Need-returns-3
 returns-3 c = rw (c .before .before .i3 .given .1) (c .field-row .ensures)
@@ -43,7 +43,7 @@ returns-4 c = rw (c .before .before .i4 .given .1) (c .static-row .ensures)
 
 returns-5 : tie.Need-returns-5
 unfolding rows.itemOf itemWith
-returns-5 c = rw (c .before .i5 .given .1) (record { same = λ s. refl })
+returns-5 c = rw (c .before .i5 .given .1) (record { same = λ s. refl; in-range = refl })
 
 pub item-row-spec : {M : Type 1} → statement M
 item-row-spec =

@@ -1,6 +1,7 @@
 -- `store::codes::literal_row` meets its contract. Written by a script from tools/answers_store.txt. Assumes nothing.
 use mathlib.Core.Path.{refl, _∙_}
 use borrow.Author.Needs.{needs}
+use Rattle.store.specs.Codes.{exprWith, sortFor, literalSort, ranged}
 use Rattle.store.proofs.CodeLaws.{float-says, integer-says}
 use Rattle.layout.specs.Exprs as rows
 use Rattle.store.specs.Codes.{exprWith}
@@ -43,16 +44,16 @@ returns-2 : tie.Need-returns-2
 returns-2 c = integer-says _ _ _ _ _ (c .before .before .before .l2 .given .1) (c .before .before .before .before .before .pre) (c .halves2 .ensures .0) (c .halves2 .ensures .1) (c .before .value-of .ensures) refl
 
 returns-3 : tie.Need-returns-3
-unfolding rows.exprOf exprWith literalOf
-returns-3 c = rw (c .before .l3 .given .1) (record { pointed = refl; same = λ s is. refl })
+unfolding rows.exprOf exprWith sortFor literalSort ranged literalOf
+returns-3 c = rw (c .before .l3 .given .1) (record { pointed = refl; same = λ s is. refl; sort-is = refl; in-range = refl })
 
 returns-4 : tie.Need-returns-4
-unfolding rows.exprOf exprWith literalOf
-returns-4 c = rw (c .before .l4 .given .1) (record { pointed = refl; same = λ s is. refl })
+unfolding rows.exprOf exprWith sortFor literalSort ranged literalOf
+returns-4 c = rw (c .before .l4 .given .1) (record { pointed = refl; same = λ s is. refl; sort-is = refl; in-range = refl })
 
 returns-5 : tie.Need-returns-5
-unfolding rows.exprOf exprWith literalOf
-returns-5 c = rw (c .enum-told .given .1) (record { pointed = refl; same = λ s is. refl })
+unfolding rows.exprOf exprWith sortFor literalSort ranged literalOf
+returns-5 c = rw (c .enum-told .given .1) (record { pointed = refl; same = λ s is. refl; sort-is = refl; in-range = refl })
 
 pub literal-row-spec : {M : Type 1} → statement M
 literal-row-spec =

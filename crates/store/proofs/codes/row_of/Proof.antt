@@ -1,6 +1,7 @@
 -- `store::codes::row_of` meets its contract. Written by a script from tools/answers_store.txt. Assumes nothing.
 use mathlib.Core.Path.{refl}
 use borrow.Author.Needs.{needs}
+use Rattle.store.specs.Codes.{exprWith, sortFor, ranged, ValidExpr}
 use Rattle.layout.specs.Exprs as rows
 use Rattle.store.specs.Codes.{exprWith, ValidExpr}
 use Rattle.store.proofs.codes.row_of.Statement.{statement}
@@ -71,16 +72,16 @@ enum-told-4 : tie.Need-enum-told-4
 enum-told-4 c = search needs
 
 returns : tie.Need-returns
-unfolding rows.exprOf exprWith
-returns c = rw (c .enum-told .given .1) (record { pointed = refl; same = λ s is. refl })
+unfolding rows.exprOf exprWith sortFor ranged
+returns c = rw (c .enum-told .given .1) (record { pointed = refl; same = λ s is. refl; sort-is = refl; in-range = refl })
 
 returns-2 : tie.Need-returns-2
-unfolding rows.exprOf exprWith
-returns-2 c = rw (c .before .e .given .1) (record { pointed = refl; same = λ s is. refl })
+unfolding rows.exprOf exprWith sortFor ranged
+returns-2 c = rw (c .before .e .given .1) (record { pointed = refl; same = λ s is. refl; sort-is = refl; in-range = refl })
 
 returns-3 : tie.Need-returns-3
-unfolding rows.exprOf exprWith
-returns-3 c = rw (c .before .e2 .given .1) (record { pointed = refl; same = λ s is. refl })
+unfolding rows.exprOf exprWith sortFor ranged
+returns-3 c = rw (c .before .e2 .given .1) (record { pointed = refl; same = λ s is. refl; sort-is = refl; in-range = refl })
 
 returns-4 : tie.Need-returns-4
 returns-4 c = rw (c .before .before .e3 .given .1) (c .literal-row .ensures)
@@ -89,50 +90,50 @@ returns-5 : tie.Need-returns-5
 returns-5 c = rw (c .before .before .e4 .given .1) (c .lambda-row .ensures)
 
 returns-6 : tie.Need-returns-6
-unfolding rows.exprOf exprWith
-returns-6 c = rw (c .before .e5 .given .1) (record { pointed = refl; same = λ s is. refl })
+unfolding rows.exprOf exprWith sortFor ranged
+returns-6 c = rw (c .before .e5 .given .1) (record { pointed = refl; same = λ s is. refl; sort-is = refl; in-range = refl })
 
 returns-7 : tie.Need-returns-7
-unfolding rows.exprOf exprWith
-returns-7 c = rw (c .enum-told2 .given .1) (record { pointed = refl; same = λ s is. refl })
+unfolding rows.exprOf exprWith sortFor ranged
+returns-7 c = rw (c .enum-told2 .given .1) (record { pointed = refl; same = λ s is. refl; sort-is = refl; in-range = refl })
 
 returns-8 : tie.Need-returns-8
-unfolding rows.exprOf exprWith
-returns-8 c = rw (c .before .e6 .given .1) (record { pointed = refl; same = λ s is. refl })
+unfolding rows.exprOf exprWith sortFor ranged
+returns-8 c = rw (c .before .e6 .given .1) (record { pointed = refl; same = λ s is. refl; sort-is = refl; in-range = refl })
 
 returns-9 : tie.Need-returns-9
 returns-9 c = rw (c .before .before .e7 .given .1) (c .set-row .ensures)
 
 returns-10 : tie.Need-returns-10
-unfolding rows.exprOf exprWith
-returns-10 c = rw (c .before .e8 .given .1) (record { pointed = refl; same = λ s is. refl })
+unfolding rows.exprOf exprWith sortFor ranged
+returns-10 c = rw (c .before .e8 .given .1) (record { pointed = refl; same = λ s is. refl; sort-is = refl; in-range = refl })
 
 returns-11 : tie.Need-returns-11
-unfolding rows.exprOf exprWith
-returns-11 c = rw (c .before .e9 .given .1) (record { pointed = refl; same = λ s is. refl })
+unfolding rows.exprOf exprWith sortFor ranged
+returns-11 c = rw (c .before .e9 .given .1) (record { pointed = refl; same = λ s is. refl; sort-is = refl; in-range = refl })
 
 returns-12 : tie.Need-returns-12
 returns-12 c = rw (c .before .before .e10 .given .1) (c .select-row .ensures)
 
 returns-13 : tie.Need-returns-13
-unfolding rows.exprOf exprWith
-returns-13 c = rw (c .before .e11 .given .1) (record { pointed = refl; same = λ s is. refl })
+unfolding rows.exprOf exprWith sortFor ranged
+returns-13 c = rw (c .before .e11 .given .1) (record { pointed = refl; same = λ s is. refl; sort-is = refl; in-range = refl })
 
 returns-14 : tie.Need-returns-14
-unfolding rows.exprOf exprWith
-returns-14 c = rw (c .before .e12 .given .1) (record { pointed = refl; same = λ s is. refl })
+unfolding rows.exprOf exprWith sortFor ranged
+returns-14 c = rw (c .before .e12 .given .1) (record { pointed = refl; same = λ s is. refl; sort-is = refl; in-range = refl })
 
 returns-15 : tie.Need-returns-15
-unfolding rows.exprOf exprWith
-returns-15 c = rw (c .before .e13 .given .1) (record { pointed = refl; same = λ s is. refl })
+unfolding rows.exprOf exprWith sortFor ranged
+returns-15 c = rw (c .before .e13 .given .1) (record { pointed = refl; same = λ s is. refl; sort-is = refl; in-range = refl })
 
 returns-16 : tie.Need-returns-16
-unfolding rows.exprOf exprWith
-returns-16 c = rw (c .enum-told3 .given .1) (record { pointed = refl; same = λ s is. refl })
+unfolding rows.exprOf exprWith sortFor ranged
+returns-16 c = rw (c .enum-told3 .given .1) (record { pointed = refl; same = λ s is. refl; sort-is = refl; in-range = refl })
 
 returns-17 : tie.Need-returns-17
-unfolding rows.exprOf exprWith
-returns-17 c = rw (c .enum-told4 .given .1) (record { pointed = refl; same = λ s is. refl })
+unfolding rows.exprOf exprWith sortFor ranged
+returns-17 c = rw (c .enum-told4 .given .1) (record { pointed = refl; same = λ s is. refl; sort-is = refl; in-range = refl })
 
 pub row-of-spec : {M : Type 1} → statement M
 row-of-spec =

@@ -18,15 +18,15 @@ enum-known-v-3 c = search needs
 
 returns : tie.Need-returns
 unfolding rows.itemOf itemWith bindingOf
-returns c = rw (c .before .v .given .1) (record { same = λ s. refl })
+returns c = rw (c .before .v .given .1) (record { same = λ s. refl; in-range = refl })
 
 returns-2 : tie.Need-returns-2
 unfolding rows.itemOf itemWith bindingOf
-returns-2 c = rw (c .before .v2 .given .1) (record { same = λ s. refl })
+returns-2 c = rw (c .before .v2 .given .1) (record { same = λ s. refl; in-range = refl })
 
 returns-3 : tie.Need-returns-3
 unfolding rows.itemOf itemWith bindingOf
-returns-3 c = rw (c .before .v3 .given .1) (record { same = λ s. refl })
+returns-3 c = rw (c .before .v3 .given .1) (record { same = λ s. refl; in-range = refl })
 
 pub static-row-spec : {M : Type 1} → statement M
 static-row-spec =

@@ -1,6 +1,7 @@
 -- `store::exprs::alloc_missing` meets its contract. Written by a script from tools/answers_store.txt. Assumes nothing.
 use mathlib.Core.Path.{refl}
 use borrow.Author.Needs.{needs}
+use Rattle.soundness.specs.Coded.{fieldsCoded}
 use Rattle.store.proofs.ExprLaws.{missing-allocated}
 use Rattle.store.proofs.exprs.alloc_missing.Statement.{statement}
 use Rattle.store.proofs.exprs.alloc_missing.Tie as tie
@@ -9,7 +10,8 @@ waiting-count-requires : tie.Need-waiting-count-requires
 waiting-count-requires c κs = search needs
 
 alloc-row-requires : tie.Need-alloc-row-requires
-alloc-row-requires c κs = search needs
+unfolding fieldsCoded
+alloc-row-requires c κs = (c .before .before .before .before .pre, refl)
 
 same-length : tie.Need-same-length
 same-length c = search needs

@@ -2,6 +2,8 @@
 use mathlib.Core.Path.{_∙_}
 use native.Mathlib.Omega.{arith}
 use borrow.Author.Needs.{needs}
+use Rattle.store.proofs.ExprLaws.{did-where, row-full, row-crowded, row-allocated}
+use Rattle.module.proofs.CounterLaws.{room-left, room-gone}
 use Rattle.module.proofs.CounterLaws.{room-left, room-gone}
 use Rattle.store.proofs.ExprLaws.{row-full, row-crowded, row-allocated}
 use Rattle.module.proofs.CounterLaws.{room-left, room-gone}
@@ -45,19 +47,19 @@ same-length : tie.Need-same-length
 same-length c = search needs
 
 returns : tie.Need-returns
-returns c = row-allocated _ _ _ _ _ _ _ _ _ (c .before .before .before .before .before .before .before .before .before .before .before .before .before .before .before .before .counter .ensures) (room-left _ _ _ (c .before .before .before .before .before .before .before .before .before .before .before .before .before .before .before .has-room .ensures) (c .before .before .before .before .before .before .before .before .before .before .before .before .before .before .if1 .taken)) (c .before .before .before .before .before .before .before .before .before .before .before .get32 .ensures ∙ rw (c .before .before .before .before .before .before .before .before .before .before .before .before .wide .ensures)) (c .before .before .before .before .before .before .before .before .before .waiting-from .ensures .0) (omega arith) (c .before .before .before .before .before .before .take-items .ensures) (c .before .before .put-row .ensures)
+returns c = row-allocated _ _ _ _ _ _ _ _ _ (c .before .before .before .before .before .before .before .before .before .before .before .before .before .before .before .before .before .before .before .pre .1) (c .before .before .before .before .before .before .before .before .before .before .before .before .before .before .before .before .counter .ensures) (room-left _ _ _ (c .before .before .before .before .before .before .before .before .before .before .before .before .before .before .before .has-room .ensures) (c .before .before .before .before .before .before .before .before .before .before .before .before .before .before .if1 .taken)) (c .before .before .before .before .before .before .before .before .before .before .before .get32 .ensures ∙ rw (c .before .before .before .before .before .before .before .before .before .before .before .before .wide .ensures)) (c .before .before .before .before .before .before .before .before .before .waiting-from .ensures .0) (omega arith) (c .before .before .before .before .before .before .take-items .ensures) (c .before .before .put-row .ensures)
 
 same-length-2 : tie.Need-same-length-2
 same-length-2 c = search needs
 
 returns-2 : tie.Need-returns-2
-returns-2 c = row-crowded _ _ _ _ _ _ (c .before .before .before .before .before .before .before .before .counter .ensures) (room-left _ _ _ (c .before .before .before .before .before .before .before .has-room .ensures) (c .before .before .before .before .before .before .if1 .taken)) (c .before .before .before .get32 .ensures ∙ rw (c .before .before .before .before .wide .ensures)) (c .before .waiting-from .ensures .0) (omega arith)
+returns-2 c = did-where (row-crowded _ _ _ _ _ _ (c .before .before .before .before .before .before .before .before .counter .ensures) (room-left _ _ _ (c .before .before .before .before .before .before .before .has-room .ensures) (c .before .before .before .before .before .before .if1 .taken)) (c .before .before .before .get32 .ensures ∙ rw (c .before .before .before .before .wide .ensures)) (c .before .waiting-from .ensures .0) (omega arith))
 
 same-length-3 : tie.Need-same-length-3
 same-length-3 c = search needs
 
 returns-3 : tie.Need-returns-3
-returns-3 c = row-full _ _ _ _ (c .before .before .counter .ensures) (room-gone _ _ _ (c .before .has-room .ensures) (c .if1 .left))
+returns-3 c = did-where (row-full _ _ _ _ (c .before .before .counter .ensures) (room-gone _ _ _ (c .before .has-room .ensures) (c .if1 .left)))
 
 pub alloc-row-spec : {M : Type 1} → statement M
 alloc-row-spec =

@@ -16,8 +16,11 @@ has-room-requires c κs = search needs
 item-row-requires : tie.Need-item-row-requires
 item-row-requires c κs = search needs
 
+held-item-requires : tie.Need-held-item-requires
+held-item-requires c κs = search needs
+
 next-requires : tie.Need-next-requires
-next-requires c κs = small-next _ _ _ (c .before .before .has-room .ensures) (c .before .if1 .taken) (omega arith)
+next-requires c κs = small-next _ _ _ (c .before .before .before .before .has-room .ensures) (c .before .before .before .if1 .taken) (omega arith)
 
 wide-requires : tie.Need-wide-requires
 wide-requires c κs = search needs
@@ -29,7 +32,7 @@ add-put-three : tie.Need-add-put-three
 add-put-three c = search needs
 
 put-three-requires : tie.Need-put-three-requires
-put-three-requires c κs = omega (arith, room-left (c .before .before .before .before .before .has-room .result) (c .before .before .before .before .before .before .counter .result .used) 16384 (c .before .before .before .before .before .has-room .ensures) (c .before .before .before .before .if1 .taken), c .wide .ensures)
+put-three-requires c κs = omega (arith, room-left (c .before .before .before .before .before .before .before .has-room .result) (c .before .before .before .before .before .before .before .before .counter .result .used) 16384 (c .before .before .before .before .before .before .before .has-room .ensures) (c .before .before .before .before .before .before .if1 .taken), c .wide .ensures)
 
 put32-requires : tie.Need-put32-requires
 put32-requires c κs = search needs
@@ -38,7 +41,7 @@ same-length : tie.Need-same-length
 same-length c = search needs
 
 returns : tie.Need-returns
-returns c = item-pushed _ _ _ _ (c .before .before .before .before .before .before .before .before .before .before .item-row .result) _ _ (c .before .before .before .before .before .before .before .before .before .before .before .before .before .before .before .before .pre) (c .before .before .before .before .before .before .before .before .before .before .item-row .ensures .same _) (omega arith, (omega arith, (omega arith, tt))) (c .before .before .before .before .before .before .before .before .before .before .before .before .before .counter .ensures) (room-left _ _ _ (c .before .before .before .before .before .before .before .before .before .before .before .before .has-room .ensures) (c .before .before .before .before .before .before .before .before .before .before .before .if1 .taken)) (omega arith) (c .before .before .before .before .before .before .put-three .ensures) (c .before .before .put32 .ensures ∙ rw (c .before .before .before .before .before .before .before .before .before .next .ensures))
+returns c = item-pushed _ _ _ _ (c .before .before .before .before .before .before .before .before .before .before .held-item .result) _ _ (c .before .before .before .before .before .before .before .before .before .before .before .before .before .before .before .before .before .before .pre) (c .before .before .before .before .before .before .before .before .before .before .held-item .ensures .same ∙ c .before .before .before .before .before .before .before .before .before .before .before .item-row .ensures .same _) (rw (c .before .before .before .before .before .before .before .before .before .before .held-item .ensures .tag-same) (c .before .before .before .before .before .before .before .before .before .before .before .item-row .ensures .in-range)) (c .before .before .before .before .before .before .before .before .before .before .held-item .ensures .coded) (omega arith, (omega arith, (omega arith, tt))) (c .before .before .before .before .before .before .before .before .before .before .before .before .before .before .before .counter .ensures) (room-left _ _ _ (c .before .before .before .before .before .before .before .before .before .before .before .before .before .before .has-room .ensures) (c .before .before .before .before .before .before .before .before .before .before .before .before .before .if1 .taken)) (omega arith) (c .before .before .before .before .before .before .put-three .ensures) (c .before .before .put32 .ensures ∙ rw (c .before .before .before .before .before .before .before .before .before .next .ensures))
 
 same-length-2 : tie.Need-same-length-2
 same-length-2 c = search needs
@@ -53,6 +56,7 @@ push-item-spec =
     counter-requires
     has-room-requires
     item-row-requires
+    held-item-requires
     next-requires
     wide-requires
     mul-put-three

@@ -12,6 +12,9 @@ get32-requires c κs = search needs
 get32-requires-2 : tie.Need-get32-requires-2
 get32-requires-2 c κs = search needs
 
+held-text-requires : tie.Need-held-text-requires
+held-text-requires c κs = search needs
+
 put-diagnostic-requires : tie.Need-put-diagnostic-requires
 put-diagnostic-requires c κs = search needs
 
@@ -37,7 +40,7 @@ same-length : tie.Need-same-length
 same-length c = search needs
 
 returns : tie.Need-returns
-returns c = duplicate-put _ _ _ _ _ _ _ _ _ _ (c .before .before .before .before .before .before .before .before .before .before .before .before .before .before .before .before .before .before .before .before .pre) (c .before .before .before .before .before .before .before .before .before .before .before .before .before .before .before .before .before .get32 .ensures) (c .before .before .before .before .before .before .before .before .before .before .before .before .before .before .if1 .taken) (c .before .before .before .before .before .before .before .before .before .before .before .before .before .before .before .get322 .ensures) (c .before .before .before .before .before .before .before .before .before .before .before .before .before .if2 .taken) (omega arith, (omega arith, (omega arith, tt))) (omega arith) (c .before .before .before .before .before .before .before .before .before .before .before .put-diagnostic .ensures) (c .before .before .before .before .before .before .put-pointer .ensures) (c .before .before .put32 .ensures)
+returns c = duplicate-put _ _ _ _ _ _ _ _ _ _ _ (c .before .before .before .before .before .before .before .before .before .before .before .before .before .held-text .ensures) (c .before .before .before .before .before .before .before .before .before .before .before .before .before .before .before .before .before .before .before .before .before .before .pre) (c .before .before .before .before .before .before .before .before .before .before .before .before .before .before .before .before .before .before .before .get32 .ensures) (c .before .before .before .before .before .before .before .before .before .before .before .before .before .before .before .before .if1 .taken) (c .before .before .before .before .before .before .before .before .before .before .before .before .before .before .before .before .before .get322 .ensures) (c .before .before .before .before .before .before .before .before .before .before .before .before .before .before .before .if2 .taken) (omega arith, (omega arith, (omega arith, tt))) (omega arith) (c .before .before .before .before .before .before .before .before .before .before .before .put-diagnostic .ensures) (c .before .before .before .before .before .before .put-pointer .ensures) (c .before .before .put32 .ensures)
 
 same-length-2 : tie.Need-same-length-2
 same-length-2 c = search needs
@@ -57,6 +60,7 @@ add-duplicate-spec =
     (tie.spec
     get32-requires
     get32-requires-2
+    held-text-requires
     put-diagnostic-requires
     wide-requires
     mul-put-pointer
