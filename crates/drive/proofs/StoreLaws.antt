@@ -9,7 +9,6 @@ use borrow.Author.Tests.{le-leb, lt-leb, eq-eqb, ne-eqb}
 use Rattle.spec.specs.Basics.{Text}
 use Rattle.spec.specs.Module.{Pointer}
 use Rattle.spec.specs.Sheet.{Judged, accepted, refused}
-use Rattle.spec.specs.Steps.{Step}
 use Rattle.sheet.specs.Sheets.{answer}
 use Rattle.sheet.specs.declared.position.Position.{Position}
 use Rattle.sheet.specs.declared.sheets.SheetRead.{SheetRead}
@@ -24,12 +23,12 @@ use Rattle.layout.specs.Exprs.{itemOf}
 use Rattle.layout.specs.States.{waitingOf}
 use Rattle.store.specs.declared.codes.Row.{Row}
 use Rattle.store.specs.declared.codes.ItemRow.{ItemRow}
-use Rattle.store.specs.Codes.{Reads, ReadsItem, exprMade, itemWith}
-use Rattle.store.specs.Work.{Work, workOf, Did, takeRow, pushItem, putName, nameWith}
+use Rattle.store.specs.Codes.{Reads, ReadsItem, sortFor, exprMade, itemWith}
+use Rattle.store.specs.Work.{workOf, Did, Takes, takeRow, pushItem, putName, nameWith}
 use Rattle.kept.specs.declared.answers.Answer.{Answer}
 use Rattle.kept.specs.Answers.{Answered, answerOfNumber}
 use Rattle.intake.specs.Bring.{Brought}
-use Rattle.drive.specs.Stores.{IfLong, GivesIfLong, Told, orAbsent, waitingIn, wordsMade, oneIf, Brings, BringsJudged}
+use Rattle.drive.specs.Stores.{IfLong, GivesIfLong, Told, orAbsent, waitingIn, wordsMade, TakesWords, oneIf, Brings, BringsJudged}
 
 -- ---- calls that give nothing
 pub done : {P : Type 0} {s t : List ℕ} → Long s → P → IfLong P s t
@@ -66,12 +65,16 @@ unfolding waitingIn
 none-waits s h = rw (lt-leb storeBytes (length s) h)
 
 -- ---- by words
-did-as : {A : Type 0} {p q : Step Work A} {s t : List ℕ} {a : A} → p (workOf s) ≡ q (workOf s) → Did p s a t → Did q s a t
-did-as e d = record { wrote = d .wrote; still = d .still; does = λ fine. let z = d .does fine in (z .0 ∙ e, z .1) }
-
-pub expr-by-words : (s t : List ℕ) (r : Row) (e : Expr) (p : Pointer) (base n : ℕ) → Reads r e → Did (takeRow (exprMade s e p) base) s n t → Did (takeRow (wordsMade s (r .sort) (r .a) (r .b) (r .c) p) base) s n t
+same-words : (s : List ℕ) (r : Row) (e : Expr) (p : Pointer) (base : ℕ) → Reads r e → takeRow (exprMade s e p) base (workOf s) ≡ takeRow (wordsMade s (r .sort) (r .a) (r .b) (r .c) p) base (workOf s)
 unfolding takeRow exprMade wordsMade
-expr-by-words s t r e p base n reads d = did-as (rw (reads .same s (drop base (workOf s .waiting)))) d
+same-words s r e p base reads = rw (reads .same s (drop base (workOf s .waiting)))
+
+pub expr-by-words : (s t : List ℕ) (r : Row) (e : Expr) (p : Pointer) (base n : ℕ) → Reads r e → Takes (sortFor e) (exprMade s e p) base s n t → TakesWords (wordsMade s (r .sort) (r .a) (r .b) (r .c) p) base s n t
+expr-by-words s t r e p base n reads d =
+    record {
+      sort = sortFor e;
+      takes = record { wrote = d .wrote; still = d .still; does = λ fine fit. let z = d .does fine fit in (z .0 ∙ same-words s r e p base reads, z .1) };
+    }
 
 pub item-by-words : (s t : List ℕ) (r : ItemRow) (i : Item) → ReadsItem r i → Did (pushItem (itemWith (textIn s) i)) s tt t → Did (pushItem (itemOf s (r .tag) (r .a) (r .b))) s tt t
 item-by-words s t r i reads d = rw (← reads .same s) d

@@ -13,6 +13,7 @@ use Rattle.layout.specs.Layout.{Long, storeBytes, absent}
 use Rattle.layout.specs.Exprs as rows
 use Rattle.layout.specs.States.{waitingOf}
 use Rattle.intake.specs.Bring.{Brought}
+use Rattle.store.specs.Work.{Takes}
 
 -- P holds of a store that is long enough; a shorter one stays as it was
 pub record IfLong (P : Type 0) (s t : List ℕ) : Type 0 where
@@ -40,6 +41,11 @@ waitingIn s = if leb storeBytes (length s) then length (waitingOf s) else absent
 -- an expression with a pointer, by the words of docs/STORE.md
 unfoldable pub wordsMade : List ℕ → ℕ → ℕ → ℕ → ℕ → Pointer → List rows.Item → Made
 wordsMade s sort a b c p is = record { expr = rows.exprOf s sort a b c is; pointer = some p }
+
+-- it takes the items that wait from `base` on, if they are such as its sort may have
+pub record TakesWords (make : List rows.Item → Made) (base : ℕ) (s : List ℕ) (n : ℕ) (t : List ℕ) : Type 0 where
+  pub sort : ℕ
+  pub takes : Takes sort make base s n t
 
 unfoldable pub pointerWith : ℕ → ℕ → ℕ → Pointer
 pointerWith k f e = record { kind = k; from = f; to = e }

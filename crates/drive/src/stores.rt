@@ -5,12 +5,12 @@ ghost use Rattle.layout.specs.Layout.{exprLimit, nameLimit};
 ghost use Rattle.layout.specs.Texts.{textIn};
 ghost use Rattle.layout.specs.Exprs.{itemOf};
 ghost use Rattle.store.specs.Codes.{holeMade};
-ghost use Rattle.store.specs.Work.{Did, Cleared, pushItem, takeRow, takeLone, putName, putDuplicate, nameWith};
+ghost use Rattle.store.specs.Work.{Did, Cleared, pushItem, takeLone, putName, putDuplicate, nameWith};
 ghost use Rattle.store.specs.Readers.{SetEntry};
 ghost use Rattle.kept.specs.TextChanges.{Texted};
 ghost use Rattle.soundness.specs.Sound.{conditionOf};
 ghost use Rattle.soundness.specs.Verdict.{verdict, numberOf};
-ghost use Rattle.drive.specs.Stores.{IfLong, GivesIfLong, Told, orAbsent, waitingIn, wordsMade, pointerWith};
+ghost use Rattle.drive.specs.Stores.{IfLong, GivesIfLong, Told, orAbsent, waitingIn, wordsMade, TakesWords, pointerWith};
 use kept::add_text;
 use module::ExprId;
 use module::Pointer;
@@ -111,7 +111,7 @@ pub extern "C" fn drive_expr(
     from: u32,
     to: u32,
 ) -> u32
-    ensures { λ r. ⌜ GivesIfLong (Told exprLimit (λ n. Did (takeRow (wordsMade (now (store .entry)) sort a b c (pointerWith kind from to)) base) (now (store .entry)) n (now (store .exit)))) (now (store .entry)) r (now (store .exit)) ⌝ }
+    ensures { λ r. ⌜ GivesIfLong (Told exprLimit (λ n. TakesWords (wordsMade (now (store .entry)) sort a b c (pointerWith kind from to)) base (now (store .entry)) n (now (store .exit)))) (now (store .entry)) r (now (store .exit)) ⌝ }
 {
     if store.len() < STORE_BYTES {
         return ABSENT;

@@ -1,6 +1,6 @@
 -- Kept answers: the numbers of their rows, what is read of them, and what keeping one does. Assumes nothing.
 use mathlib.Core.Path.{_≡_, refl, sym, ap, _∙_}
-use mathlib.Core.Logic.{_⊎_, inl, inr}
+use mathlib.Core.Logic.{_⊎_, inl, inr, ⊎-elim}
 use mathlib.Core.Bool.{Bool, true, false}
 use mathlib.Core.List.{List, [], _∷_}
 use mathlib.Core.Option.{Option, none, some}
@@ -152,7 +152,13 @@ pub no-number : (s : List ℕ) (e v : ℕ) (a : Answer) → v ≡ answerNumber a
 unfolding keepAnswer
 no-number s e v a ev h =
     let z : answerNumber a ≡ 4294967295 = sym ev ∙ h in
-    record { wrote = wrote-none ((2310228, 2441300) ∷ []) s; still = record { same = refl }; does = rw z }
+    record {
+      wrote = wrote-none ((usesAt + 8 * e + 4, usesAt + 8 * e + 8) ∷ []) s;
+      still = record { same = refl; used = refl };
+      does = rw z;
+      row = λ l has. absurd (has z);
+      past = λ l. refl;
+    }
 
 keeps : (k : Kept) (e : ℕ) (a : Answer) → (answerNumber a ≡ absent → ⊥) → keepAnswer e a k ≡ record { lowered = k .lowered; scopes = k .scopes; answers = set (k .answers) e (answeredNow k e a); references = k .references; spent = k .spent }
 unfolding keepAnswer
@@ -172,9 +178,11 @@ unfolding keptIn
 no-expr s e n v a en h ev ne =
     let z : length (rowsTo (answerIn s) (cap (word s 0) 16384)) ≤ e = rw (length-rows (answerIn s) (cap (word s 0) 16384), ← en) h in
     record {
-      wrote = wrote-none ((2310228, 2441300) ∷ []) s;
-      still = record { same = refl };
+      wrote = wrote-none ((usesAt + 8 * e + 4, usesAt + 8 * e + 8) ∷ []) s;
+      still = record { same = refl; used = refl };
       does = rw (keeps (keptIn s) e a (λ q. ne (ev ∙ q)), set-out (rowsTo (answerIn s) (cap (word s 0) 16384)) e (answeredNow (keptIn s) e a) z);
+      row = λ l has. absurd (omega (arith, en));
+      past = λ l. refl;
     }
 
 module _ (s t : List ℕ) (e n v : ℕ) (a : Answer) (l : Long s) (en : n ≡ cap (word s 0) 16384) (h : e < n) (ev : v ≡ answerNumber a) (ne : v ≡ 4294967295 → ⊥) (hv : v < 2 ^ 32) (et : t ≡ setWord s (2310228 + 8 * e + 4) v) where
@@ -203,13 +211,15 @@ module _ (s t : List ℕ) (e n v : ℕ) (a : Answer) (l : Long s) (en : n ≡ ca
   unfolding sortOf
   same-sort i k = put-other (64 + 20 * i + 4) (inl (omega arith))
 
+  word-here : word t (2310228 + 8 * e + 4) ≡ answerNumber a
+  word-here = let f = low in rw et (word-setWord-same s (2310228 + 8 * e + 4) v (omega arith) hv) ∙ ev
+
   one-answer : answerIn t e ≡ answeredNow (keptIn s) e a
   unfolding answerIn scopeOf
   one-answer =
       let f = low in
       let m : e < cap (word s 0) 16384 = rw (← en) h in
-      let here : word t (2310228 + 8 * e + 4) ≡ answerNumber a = rw et (word-setWord-same s (2310228 + 8 * e + 4) v (omega arith) hv) ∙ ev in
-      rw (same-sort e f, same-scopes, scope-word e, here, says-again a (scopesIn s) (raised (word s (2310228 + 8 * e))) (λ q. ne (ev ∙ q))) (sym (answered-by s e a m (eqb (sortOf s e) 21) refl))
+      rw (same-sort e f, same-scopes, scope-word e, word-here, says-again a (scopesIn s) (raised (word s (2310228 + 8 * e))) (λ q. ne (ev ∙ q))) (sym (answered-by s e a m (eqb (sortOf s e) 21) refl))
 
   many-answers : rowsTo (answerIn t) (cap (word t 0) 16384) ≡ set (rowsTo (answerIn s) (cap (word s 0) 16384)) e (answeredNow (keptIn s) e a)
   many-answers =
@@ -229,13 +239,19 @@ module _ (s t : List ℕ) (e n v : ℕ) (a : Answer) (l : Long s) (en : n ≡ ca
         other = λ j o. put-other j (clear-of (2310228 + 8 * e + 4) 4 2310228 2441300 j (omega arith) (omega arith) (o .0));
       }
 
+  wrote-word : Wrote ((usesAt + 8 * e + 4, usesAt + 8 * e + 8) ∷ []) s t
+  unfolding Outside
+  wrote-word = record { size = wrote-one .size; other = λ j o. put-other j (⊎-elim (λ z. inl z) (λ z. inr (omega arith)) (o .0)) }
+
   pub kept-now : Answered e a s t
   unfolding keptIn
   kept-now =
       let f = low in
-      let still : Still s t = rw et (still-setWord s (2310228 + 8 * e + 4) v (omega arith)) in
+      let still : Still s t = rw et (still-setWord s (2310228 + 8 * e + 4) v (omega arith) (λ z. omega arith)) in
       record {
-        wrote = wrote-one;
+        wrote = wrote-word;
         still = still;
+        row = λ l has. word-here;
+        past = λ l. absurd (omega (arith, en));
         does = kept-are s t (set (rowsTo (answerIn s) (cap (word s 0) 16384)) e (answeredNow (keptIn s) e a)) (module-kept wrote-one still refl refl) same-scopes many-answers (references-kept wrote-one refl refl) (put-other 24 (inl (omega arith))) ∙ sym (keeps (keptIn s) e a (λ q. ne (ev ∙ q)));
       }

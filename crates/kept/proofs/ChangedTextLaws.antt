@@ -14,9 +14,10 @@ use Rattle.words.proofs.RunLaws.{length-run, length-splice, run-whole, run-spli
 use Rattle.words.proofs.WordLaws.{word-lt, length-setWord, word-setWord-same, word-setWord-other, run-setWord-other, word-splice-other}
 use Rattle.layout.specs.Layout.{Long, absent, textsPlace, textsAt, textLimit}
 use Rattle.layout.specs.Changes.{Outside, Wrote}
-use Rattle.layout.specs.Texts.{textOf, textIn}
+use Rattle.layout.specs.Texts.{textsUsed, textOf, textIn}
 use Rattle.soundness.specs.Sound.{textFits}
 use Rattle.kept.specs.TextChanges.{texting, taken, Texted}
+use Rattle.layout.proofs.RowLaws.{cap-le}
 use Rattle.layout.proofs.Frames.{wrote-none, text-absent}
 use Rattle.kept.proofs.ScopeLaws.{clear-of}
 use Rattle.kept.proofs.TextFrames.{kept-worded}
@@ -25,6 +26,11 @@ pub fits-absent : (s : List ℕ) → textFits s absent ≡ true
 unfolding textFits
 fits-absent s = rw (eq-eqb absent absent refl)
 
+nothing-taken : (bytes : List ℕ) → length bytes ≡ 0 → taken bytes ≡ 0
+unfolding taken
+nothing-taken [] e = refl
+nothing-taken (b ∷ bs) e = absurd (omega arith)
+
 pub text-none : (s bytes : List ℕ) → length bytes ≡ 0 → Texted bytes s 4294967295 s
 text-none s bytes e =
     record {
@@ -32,6 +38,9 @@ text-none s bytes e =
       is = λ h. (text-absent s ∙ sym (empty bytes e), fits-absent s);
       others = λ j h. (refl, h);
       kept = λ h. refl;
+      used = λ h. let z : taken bytes ≡ 0 = nothing-taken bytes e in omega arith;
+      full = λ h. refl;
+      empty = λ h. refl;
     }
   where
     empty : (xs : List ℕ) → length xs ≡ 0 → xs ≡ []
@@ -44,12 +53,21 @@ taken-some [] h = absurd (h refl)
 taken-some (b ∷ bs) h = refl
 
 pub text-full : (s bytes : List ℕ) → (length bytes ≡ 0 → ⊥) → textLimit < word s 28 + 4 + length bytes → Texted bytes s 4294967295 s
-text-full s bytes n h = record { wrote = wrote-none texting s; is = λ k. absurd (omega (arith, taken-some bytes n)); others = λ j q. (refl, q); kept = λ q. refl }
+text-full s bytes n h =
+    record {
+      wrote = wrote-none texting s;
+      is = λ k. absurd (omega (arith, taken-some bytes n));
+      others = λ j q. (refl, q);
+      kept = λ q. refl;
+      used = λ k. absurd (omega (arith, taken-some bytes n));
+      full = λ k. refl;
+      empty = λ k. refl;
+    }
 
 absent-now : (s t : List ℕ) (j : ℕ) → j ≡ absent → (textIn t j ≡ textIn s j) × (textFits t j ≡ true)
 absent-now s t j e = rw e (text-absent t ∙ sym (text-absent s), fits-absent t)
 
-module _ (s u v t bytes : List ℕ) (k n : ℕ) (l : Long s) (ek : k ≡ word s 28) (en : n ≡ length bytes) (h : k + 4 + n ≤ 786432) (eu : u ≡ setWord s (3162240 + k) n) (ev : v ≡ splice u (3162240 + k + 4) (run bytes 0 n)) (et : t ≡ setWord v 28 (k + 4 + n)) where
+module _ (s u v t bytes : List ℕ) (k n : ℕ) (l : Long s) (ek : k ≡ word s 28) (en : n ≡ length bytes) (some-bytes : length bytes ≡ 0 → ⊥) (h : k + 4 + n ≤ 786432) (eu : u ≡ setWord s (3162240 + k) n) (ev : v ≡ splice u (3162240 + k + 4) (run bytes 0 n)) (et : t ≡ setWord v 28 (k + 4 + n)) where
   copied : run bytes 0 n ≡ bytes
   copied = rw en (run-whole bytes)
 
@@ -92,20 +110,28 @@ module _ (s u v t bytes : List ℕ) (k n : ℕ) (l : Long s) (ek : k ≡ word s 
       rw et (run-setWord-other v 28 (k + 4 + n) (3162240 + k + 4) n (inr (omega arith))) ∙ x
 
   text-now : textIn t k ≡ bytes
-  unfolding textIn textOf
-  text-now = rw (length-now, le-leb (k + 4 + n) 786432 h, bytes-now)
+  unfolding textIn textOf textsUsed
+  text-now = rw (length-now, place-now, cap-le (k + 4 + n) 786432 h, le-leb (k + 4 + n) (k + 4 + n) (omega arith), bytes-now)
 
   fits-now : textFits t k ≡ true
   unfolding textFits
   fits-now = rw (ne-eqb k absent (λ q. omega arith), length-now, place-now, le-leb (k + 4 + n) (k + 4 + n) (omega arith))
 
   others-now : (j : ℕ) (b : Bool) → eqb j absent ≡ b → (b || leb (j + 4 + word s (textsAt + j)) (word s textsPlace)) ≡ true → (textIn t j ≡ textIn s j) × (textFits t j ≡ true)
-  unfolding textIn textOf textFits
+  unfolding textIn textOf textsUsed textFits
   others-now j true q z = absent-now s t j (eqb-true j absent q)
   others-now j false q z =
       let f = leb-true (j + 4 + word s (3162240 + j)) (word s 28) z in
       let w : word t (3162240 + j) ≡ word s (3162240 + j) = word-before (3162240 + j) (omega arith) (omega arith) in (
-        rw (w, run-before (3162240 + j + 4) (word s (3162240 + j)) (omega arith) (omega arith)),
+        rw (
+          w,
+          place-now,
+          cap-le (k + 4 + n) 786432 h,
+          cap-le (word s 28) 786432 (omega arith),
+          le-leb (j + 4 + word s (3162240 + j)) (k + 4 + n) (omega arith),
+          le-leb (j + 4 + word s (3162240 + j)) (word s 28) f,
+          run-before (3162240 + j + 4) (word s (3162240 + j)) (omega arith) (omega arith),
+        ),
         rw (q, w, place-now, le-leb (j + 4 + word s (3162240 + j)) (k + 4 + n) (omega arith)),
       )
 
@@ -124,4 +150,7 @@ module _ (s u v t bytes : List ℕ) (k n : ℕ) (l : Long s) (ek : k ≡ word s 
         is = λ z. (text-now, fits-now);
         others = texts-others;
         kept = kept-worded s t (λ j z. texts-others j z .0) texts-wrote;
+        used = λ z. let f = taken-some bytes some-bytes in place-now ∙ omega arith;
+        full = λ z. absurd (omega (arith, taken-some bytes some-bytes));
+        empty = λ z. absurd (some-bytes (ap length z));
       }

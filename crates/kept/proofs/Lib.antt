@@ -1,4 +1,5 @@
 pub mod ScopeReads
+pub mod NeatLaws
 pub mod HoldingLaws
 pub mod ScopeLaws
 pub mod KeepFrames
@@ -9,3 +10,5 @@ pub mod UseLaws
 pub mod ChangeLaws
 pub mod TextFrames
 pub mod WalkSteps
+pub mod ScopesFitLaws
+pub mod SoundChanges

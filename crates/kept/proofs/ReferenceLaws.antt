@@ -93,10 +93,10 @@ module _ (s t : List ℕ) (at v : ℕ) (lo : 2506848 ≤ at) (hi : at + 4 ≤ 25
 
   pub listing-one : Relisted s t
   unfolding listing Outside
-  listing-one = relisted (record { size = rw et (length-setWord s at v); other = λ j o. listing-other j (clear-of at 4 2506848 2588772 j lo hi (o .0)) }) (rw et (still-setWord s at v (omega arith)))
+  listing-one = relisted (record { size = rw et (length-setWord s at v); other = λ j o. listing-other j (clear-of at 4 2506848 2588772 j lo hi (o .0)) }) (rw et (still-setWord s at v (omega arith) (λ z. omega arith)))
 
 pub not-listing : (s : List ℕ) → Relisted s s
-not-listing s = relisted (wrote-none listing s) (record { same = refl })
+not-listing s = relisted (wrote-none listing s) (record { same = refl; used = refl })
 
 pub unlisted : (s t : List ℕ) → Long s → t ≡ setWord s 2506848 0 → Unlisted s t
 unfolding firstReference listsTo rowsTo listedBy
@@ -104,7 +104,7 @@ unlisted s t l et =
     let z : word t 2506848 ≡ 0 = rw et (word-setWord-same s 2506848 0 (omega arith) (omega arith)) in
     record {
       relisted = listing-one s t 2506848 0 (omega arith) (omega arith) et;
-      listed = record { few = omega arith; below = λ y h. absurd (omega arith); all = z };
+      listed = record { begins = z; rises = λ y h. absurd (omega arith); few = omega arith; below = λ y h. absurd (omega arith); all = z };
     }
 
 -- ---- adding
@@ -139,6 +139,8 @@ module _ (s t : List ℕ) (x m : ℕ) (firsts : Same s t 2506848 (2506848 + 4 * 
   listed-same =
       let e = first-same x (omega arith) in
       record {
+        begins = first-same 0 (omega arith) ∙ d .begins;
+        rises = λ y h. rw (first-same y (omega arith), first-same (y + 1) (omega arith)) (d .rises y h);
         few = rw e (d .few);
         below = λ y h. rw (e, first-same y (omega arith)) (d .below y h);
         all = e ∙ d .all ∙ ap listedBy (sym lists-same);
@@ -221,6 +223,16 @@ module _ (s t : List ℕ) (x n first : ℕ) (l : Long s) (hx : x < 4096) (ef : f
       let z : x + 1 ≡ suc x = omega arith in
       rw (z, end-list, lists-same s t x 16384 end-firsts end-refs d (d .few))
 
+  end-rises : Listed x s → (y : ℕ) → y < x + 1 → firstReference t y ≤ firstReference t (y + 1)
+  end-rises d y q = go (ltb y x) refl
+    where
+      same : (z : ℕ) → z ≤ x → firstReference t z ≡ firstReference s z
+      same z l = first-same s t x 16384 end-firsts end-refs d (d .few) z l
+
+      go : (b : Bool) → ltb y x ≡ b → firstReference t y ≤ firstReference t (y + 1)
+      go true e = let l = ltb-true y x e in rw (same y (omega arith), same (y + 1) (omega arith)) (d .rises y l)
+      go false e = let z : y ≡ x = omega (arith, ltb-false y x e) in rw (z, end-next, end-first) (omega arith)
+
   pub ended : Ended x n s t
   ended =
       record {
@@ -229,6 +241,8 @@ module _ (s t : List ℕ) (x n first : ℕ) (l : Long s) (hx : x < 4096) (ef : f
             let fs : firstReference s x ≡ first = sym (first-is s x first ef) in (
               end-lists d,
               record {
+                begins = first-same s t x 16384 end-firsts end-refs d (d .few) 0 (omega arith) ∙ d .begins;
+                rises = end-rises d;
                 few = rw end-next h;
                 below = λ y q.
                     let c : firstReference t y ≡ firstReference s y = first-same s t x 16384 end-firsts end-refs d (d .few) y (omega arith) in

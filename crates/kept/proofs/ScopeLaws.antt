@@ -13,6 +13,7 @@ use borrow.Author.Tests.{lt-ltb, le-ltb, le-leb, lt-leb, ltb-true, ltb-false}
 use Rattle.words.specs.Words.{word, setWord}
 use Rattle.words.proofs.WordLaws.{word-lt, length-setWord, word-setWord-same, word-setWord-other}
 use Rattle.spec.specs.Scopes.{ScopeKind, definitions, withExpr, Scope, Scopes, placeExpr, openScope}
+use Rattle.spec.specs.Answer.{scopeAt}
 use Rattle.layout.specs.Layout.{Long, exprCount, scopeCount, usesAt, scopesAt, enteredAt, exprLimit, nameLimit, scopeLimit}
 use Rattle.layout.specs.Rows.{cap, rowsTo, rowsFrom, raised, setAll}
 use Rattle.layout.specs.Changes.{Range, Outside, Wrote, Still}
@@ -20,10 +21,11 @@ use Rattle.layout.specs.States.{exprsOf}
 use Rattle.layout.specs.Exprs.{madeIn}
 use Rattle.layout.specs.Keeps.{firstEntered, enteredOf, kindOfScope, scopeIn, scopeOf, scopesIn}
 use Rattle.kept.specs.Walks.{namesEntered, enteredBy, kindFits, tryOpen, tryPlace, tryRoot, root, walking, usedNames, waitingNames, Neat, Walked, Unplaced, Emptied, Waits}
-use Rattle.layout.proofs.RowLaws.{rows-same, length-rows, rows-put, between-same, cap-le, cap-over, cap-lim, cap-less}
+use Rattle.layout.proofs.RowLaws.{rows-same, length-rows, rows-put, between-same, cap-le, cap-lim, cap-less}
 use Rattle.layout.proofs.Frames.{Same, same-on, wrote-none, wrote-then}
 use Rattle.layout.proofs.WriteLaws.{Small, length-all, still-setWord, still-all, still-then, all-other, all-at}
-use Rattle.kept.proofs.ScopeReads.{length-scopes}
+use Rattle.kept.proofs.ScopeReads.{scope-in, length-scopes}
+use Rattle.kept.proofs.NeatLaws.{neat-count, neat-below, neat-all}
 
 -- ---- one write
 -- what lies outside a range lies outside what is written in it
@@ -94,7 +96,7 @@ scoped s t i p w e l hi hp hw he et =
             size = rw et (length-setWord u 20 (i + 1) ∙ lu);
             other = λ j o. other j (clear-of at 12 2310228 2506848 j (omega arith) (omega arith) (o .1 .0)) (o .0);
           };
-      still = rw et (still-then (still-all s at ws (omega arith)) (still-setWord u 20 (i + 1) (omega arith)));
+      still = rw et (still-then (still-all s at ws (omega arith) (λ z. omega arith)) (still-setWord u 20 (i + 1) (omega arith) (λ z. omega arith)));
       count = rw et (word-setWord-same u 20 (i + 1) (omega arith) (omega arith));
       parent = row 0 (2441300 + 12 * i + 4) (omega arith) (omega arith);
       source = row 1 (2441300 + 12 * i + 8) (omega arith) (omega arith);
@@ -104,11 +106,6 @@ scoped s t i p w e l hi hp hw he et =
       uses = λ j a b. other j (inl (omega arith)) (inr (omega arith));
       exprs = other 0 (inl (omega arith)) (inl (omega arith));
     }
-
-entered-more : (ss : List Scope) (x : Scope) → enteredBy (ss ++ (x ∷ [])) ≡ enteredBy ss + length (namesEntered (x .kind))
-unfolding enteredBy
-entered-more [] x = omega arith
-entered-more (y ∷ ss) x = rw (entered-more ss x) (omega arith)
 
 -- the scope in a row of the words p and w whose names are those from u on, before e
 unfoldable pub scopeOfRow : List ℕ → ℕ → ℕ → ℕ → ℕ → Scope
@@ -137,6 +134,14 @@ module _ (s t : List ℕ) (i p w e : ℕ) (ei : i ≡ cap (word s 20) 4096) (hi 
   unfolding usedNames firstEntered
   used-before = rw (← ei)
 
+  first-is : firstEntered s i ≡ usedNames s
+  unfolding firstEntered
+  first-is = sym used-before
+
+  end-is : firstEntered t (i + 1) ≡ e
+  unfolding firstEntered
+  end-is = r .end
+
   old-row : (k : ℕ) → k < i → scopeIn t k ≡ scopeIn s k
   old-row k h = scope-same s t k 4096 (λ j a b. r .rows j (omega arith) (omega arith)) (r .names) (cap-lim (firstEntered s (k + 1)) nameLimit)
 
@@ -146,27 +151,36 @@ module _ (s t : List ℕ) (i p w e : ℕ) (ei : i ≡ cap (word s 20) 4096) (hi 
       let z : i + 1 ≡ suc i = omega arith in
       rw (count-more, z, ← ei, rows-same (scopeIn t) (scopeIn s) i old-row, new-row s t i p w (usedNames s) e (sym used-before) few he r)
 
-  below-after : Neat s → usedNames s ≤ e → (k : ℕ) → k < i + 1 → firstEntered t k ≤ e
+  first-before : (k : ℕ) → k < i + 1 → firstEntered t k ≡ firstEntered s k
   unfolding firstEntered
-  below-after neat le k h =
-      let a : word t (2441300 + 12 * k) ≡ word s (2441300 + 12 * k) = r .rows (2441300 + 12 * k) (omega arith) (omega arith) in
-      rw a (go (ltb k i) refl)
-    where
-      go : (b : Bool) → ltb k i ≡ b → word s (2441300 + 12 * k) ≤ e
-      go true q = let m : k < cap (word s 20) 4096 = rw (← ei) (ltb-true k i q) in omega (arith, neat .below k m)
-      go false q = let z : k ≡ i = omega (arith, ltb-false k i q) in rw z (omega (arith, used-before))
+  first-before k h = r .rows (scopesAt + 12 * k) (omega arith) (omega arith)
 
-  pub scope-more : Neat s → usedNames s ≤ e → e ≤ 4096 → e ≡ usedNames s + length (namesEntered (scopeOfRow s p w (usedNames s) e .kind)) → More (scopeOfRow s p w (usedNames s) e) s t
-  scope-more neat le he all =
+  follows-after : Neat s → e ≤ 4096 → e ≡ usedNames s + length (namesEntered (scopeOfRow s p w (usedNames s) e .kind)) → (k : ℕ) → k < i + 1 → firstEntered t (k + 1) ≡ firstEntered t k + length (namesEntered (scopeIn t k .kind))
+  follows-after neat he all k h = go (ltb k i) refl
+    where
+      go : (b : Bool) → ltb k i ≡ b → firstEntered t (k + 1) ≡ firstEntered t k + length (namesEntered (scopeIn t k .kind))
+      go true q =
+          let l = ltb-true k i q in
+          let m : k < word s 20 = rw (← neat-count s neat, ← ei) l in
+          rw (old-row k l, first-before k h, first-before (k + 1) (omega arith)) (neat .follows k m)
+      go false q =
+          let z : k ≡ i = omega (arith, ltb-false k i q) in
+          let row = new-row s t i p w (usedNames s) e (sym used-before) (neat .few) he r in
+          let here : firstEntered t i ≡ usedNames s = first-before i (omega arith) ∙ first-is in
+          rw (z, row, here, end-is) all
+
+  pub scope-more : Neat s → e ≤ 4096 → e ≡ usedNames s + length (namesEntered (scopeOfRow s p w (usedNames s) e .kind)) → More (scopeOfRow s p w (usedNames s) e) s t
+  scope-more neat he all =
       let x = scopeOfRow s p w (usedNames s) e in
       let rows = rows-after (neat .few) he in
       record {
         is = ap (λ (xs : List Scope). record { scopes = xs; ofExpr = scopesIn t .ofExpr }) rows ∙ ap (λ (os : List (Option ℕ)). record { scopes = scopesIn s .scopes ++ (x ∷ []); ofExpr = os }) (placed-same s t (r .exprs) (r .uses));
         neat =
             record {
+              counted = rw (r .count) (omega arith);
+              begins = first-before 0 (omega arith) ∙ neat .begins;
+              follows = λ k h. follows-after neat he all k (rw (r .count) at h);
               few = rw used-after he;
-              below = λ k h. rw used-after (below-after neat le k (rw count-more at h));
-              all = used-after ∙ all ∙ rw (rows, entered-more (scopesIn s .scopes) x, neat .all);
             };
       }
 
@@ -183,25 +197,32 @@ used-same s t c w =
     let l = cap-lim (word s scopeCount) scopeLimit in
     rw c (w (scopesAt + 12 * cap (word s scopeCount) scopeLimit) (omega arith) (omega arith))
 
-neat-same : (s t : List ℕ) → word t scopeCount ≡ word s scopeCount → Same s t 2441300 2490464 → scopesIn t .scopes ≡ scopesIn s .scopes → Neat s → Neat t
+first-same : (s t : List ℕ) (i : ℕ) → Same s t 2441300 2490464 → i ≤ scopeLimit → firstEntered t i ≡ firstEntered s i
 unfolding firstEntered
+first-same s t i w l = w (scopesAt + 12 * i) (omega arith) (omega arith)
+
+neat-same : (s t : List ℕ) → word t scopeCount ≡ word s scopeCount → Same s t 2441300 2490464 → scopesIn t .scopes ≡ scopesIn s .scopes → Neat s → Neat t
 neat-same s t c w e neat =
-    let l = cap-lim (word s scopeCount) scopeLimit in
-    let u = used-same s t c w in
     record {
-      few = rw u (neat .few);
-      below = λ i h.
-          let k : i < cap (word s scopeCount) scopeLimit = rw c at h in
-          rw (u, w (scopesAt + 12 * i) (omega arith) (omega arith)) (neat .below i k);
-      all = u ∙ neat .all ∙ ap enteredBy (sym e);
+      counted = rw c (neat .counted);
+      begins = first-same s t 0 w (omega arith) ∙ neat .begins;
+      follows = λ i h.
+          let k : i < word s scopeCount = rw c at h in
+          rw (first-same s t i w (omega (arith, neat .counted)), first-same s t (i + 1) w (omega (arith, neat .counted)), row-same i k) (neat .follows i k);
+      few = rw (used-same s t c w) (neat .few);
     }
+  where
+    row-same : (i : ℕ) → i < word s scopeCount → scopeIn t i ≡ scopeIn s i
+    row-same i l =
+        let m : i < cap (word s scopeCount) scopeLimit = rw (neat-count s neat) l in
+        sym (scope-in t i (rw c m)) ∙ ap (λ (ss : List Scope). scopeAt ss i) e ∙ scope-in s i m
 
 pub scopes-are : (v w : Scopes) → v .scopes ≡ w .scopes → v .ofExpr ≡ w .ofExpr → v ≡ w
 scopes-are v w a b = ap (λ (xs : List Scope). record { scopes = xs; ofExpr = v .ofExpr }) a ∙ ap (λ (os : List (Option ℕ)). record { scopes = w .scopes; ofExpr = os }) b
 
 -- ---- a step that finds no room
 pub walked-none : {A : Type 0} (p : Scopes → A × Scopes) (s : List ℕ) (r : A) → (Neat s → p (scopesIn s) ≡ (r, scopesIn s)) → Walked p s r s
-walked-none p s r h = record { wrote = wrote-none walking s; still = record { same = refl }; does = λ neat. (sym (h neat), neat) }
+walked-none p s r h = record { wrote = wrote-none walking s; still = record { same = refl; used = refl }; does = λ neat. (sym (h neat), neat) }
 
 -- ---- opening
 -- the scope x in the next row, whose names are those from `first` on, before e
@@ -217,7 +238,7 @@ opened q a x s t i p w first e l ei hi hp hw he ef et ex low len step =
       still = r .still;
       does = λ neat.
           let few : first ≤ 4096 = rw (← u) (neat .few) in
-          let m : More (scopeOfRow s p w (usedNames s) e) s t = scope-more s t i p w e ei hi r neat (rw u (omega (arith, len))) (low few) (rw (row, u) len) in
+          let m : More (scopeOfRow s p w (usedNames s) e) s t = scope-more s t i p w e ei hi r neat (low few) (rw (row, u) len) in
           (ap (λ (v : Scopes). (a, v)) (rw row at (m .is)) ∙ sym (step neat), m .neat);
     }
 
@@ -276,7 +297,7 @@ module _ (s : List ℕ) (i : ℕ) (ei : i ≡ cap (word s 20) 4096) where
     first-used = rw (← ei) (sym ef)
 
     all-entered : Neat s → enteredBy (scopesIn s .scopes) ≡ first
-    all-entered neat = sym (neat .all) ∙ first-used
+    all-entered neat = sym (neat-all s neat) ∙ first-used
 
     -- definitions
     waiting-many : (n : ℕ) → length (waitingNames s n) ≡ n
@@ -360,7 +381,7 @@ module _ (s t : List ℕ) (e scope n : ℕ) (l : Long s) (h : scope < 4096) (en 
               size = rw et (length-setWord s (2310228 + 8 * e) (scope + 1));
               other = λ j o. placed-other j (clear-of (2310228 + 8 * e) 4 2310228 2506848 j (omega arith) (omega arith) (o .1 .0));
             };
-        still = rw et (still-setWord s (2310228 + 8 * e) (scope + 1) (omega arith));
+        still = rw et (still-setWord s (2310228 + 8 * e) (scope + 1) (omega arith) (λ z. omega arith));
         does = λ neat. (rw (lt-ltb scope 4096 h, ← placed-scopes, ← placed-one), neat-same s t (placed-other 20 (inl (omega arith))) (λ j a b. placed-other j (inr (omega arith))) placed-scopes neat);
       }
 
@@ -374,7 +395,7 @@ module _ (s : List ℕ) (n first i x : ℕ) (l : Long s) (en : n ≡ cap (word s
   not-waiting h =
       record {
         wrote = wrote-none walking s;
-        still = record { same = refl };
+        still = record { same = refl; used = refl };
         same = λ neat. (refl, neat);
         used = refl;
         waits = λ z. absurd (omega (arith, used-first));
@@ -395,19 +416,11 @@ module _ (s : List ℕ) (n first i x : ℕ) (l : Long s) (en : n ≡ cap (word s
         rw (z, put-used, used-first, one, rows-same (λ k. word t (enteredAt + 4 * (first + k))) (λ k. word s (enteredAt + 4 * (first + k))) i (λ k q. put-other (2490464 + 4 * (first + k)) (inl (omega arith))))
 
     ends : Neat s → (k : ℕ) → k < cap (word s 20) 4096 → cap (firstEntered s (k + 1)) 4096 ≤ first
-    unfolding usedNames
-    ends neat k q = go (ltb (k + 1) (cap (word s 20) 4096)) refl
-      where
-        go : (b : Bool) → ltb (k + 1) (cap (word s 20) 4096) ≡ b → cap (firstEntered s (k + 1)) 4096 ≤ first
-        go true z =
-            let a = neat .below (k + 1) (ltb-true (k + 1) (cap (word s 20) 4096) z) in
-            let b = cap-less (firstEntered s (k + 1)) 4096 (firstEntered s (k + 1)) (inr (omega arith)) in
-            omega (arith, used-first)
-        go false z =
-            let a : k + 1 ≡ cap (word s 20) 4096 = omega (arith, ltb-false (k + 1) (cap (word s 20) 4096) z) in
-            let b = cap-less (firstEntered s (k + 1)) 4096 (firstEntered s (k + 1)) (inr (omega arith)) in
-            let c : firstEntered s (k + 1) ≡ first = rw a used-first in
-            omega arith
+    ends neat k q =
+        let c : k < word s 20 = rw (neat-count s neat) at q in
+        let a = neat-below s neat (k + 1) (omega arith) in
+        let b = cap-less (firstEntered s (k + 1)) 4096 (firstEntered s (k + 1)) (inr (omega arith)) in
+        omega (arith, used-first)
 
     put-scopes : Neat s → scopesIn t .scopes ≡ scopesIn s .scopes
     put-scopes neat = scopes-same s t first (put-other 20 (inl (omega arith))) (λ j a b. put-other j (inl (omega arith))) (λ j a b. put-other j (inl (omega arith))) (ends neat)
@@ -424,7 +437,7 @@ module _ (s : List ℕ) (n first i x : ℕ) (l : Long s) (en : n ≡ cap (word s
                 size = rw et (length-setWord s (2490464 + 4 * (first + i)) x);
                 other = λ j o. put-other j (clear-of (2490464 + 4 * (first + i)) 4 2310228 2506848 j (omega arith) (omega arith) (o .1 .0));
               };
-          still = rw et (still-setWord s (2490464 + 4 * (first + i)) x (omega arith));
+          still = rw et (still-setWord s (2490464 + 4 * (first + i)) x (omega arith) (λ z. omega arith));
           same = λ neat. (scopes-are (scopesIn t) (scopesIn s) (put-scopes neat) put-placed, neat-same s t (put-other 20 (inl (omega arith))) (λ j a b. put-other j (inl (omega arith))) (put-scopes neat) neat);
           used = put-used;
           waits = λ z. put-waits;
@@ -432,7 +445,7 @@ module _ (s : List ℕ) (n first i x : ℕ) (l : Long s) (en : n ≡ cap (word s
 
 -- ---- clearing
 pub unplaced-none : (s : List ℕ) → Unplaced 0 s s
-unplaced-none s = record { wrote = wrote-none ((2310228, 2441300) ∷ []) s; still = record { same = refl }; gone = λ e h. absurd (omega arith) }
+unplaced-none s = record { wrote = wrote-none ((2310228, 2441300) ∷ []) s; still = record { same = refl; used = refl }; gone = λ e h. absurd (omega arith) }
 
 pub unplaced-more : (s u t : List ℕ) (e : ℕ) → Long s → e < 16384 → Unplaced e s u → t ≡ setWord u (2310228 + 8 * e) 0 → Unplaced (e + 1) s t
 unfolding Outside
@@ -441,7 +454,7 @@ unplaced-more s u t e l h d et =
     let other : (j : ℕ) → (j + 4 ≤ at) ⊎ (at + 4 ≤ j) → word t j ≡ word u j = λ j o. rw et (word-setWord-other u at 0 j o) in
     record {
       wrote = wrote-then (d .wrote) (record { size = rw et (length-setWord u at 0); other = λ j o. other j (clear-of at 4 2310228 2441300 j (omega arith) (omega arith) (o .0)) });
-      still = still-then (d .still) (rw et (still-setWord u at 0 (omega arith)));
+      still = still-then (d .still) (rw et (still-setWord u at 0 (omega arith) (λ z. omega arith)));
       gone = λ k z. gone k (ltb k e) refl z;
     }
   where
@@ -499,8 +512,12 @@ module _ (s u v t : List ℕ) (n : ℕ) (l : Long s) (en : n ≡ cap (word s 0) 
   unfolding usedNames firstEntered
   cleared-used = rw no-scopes cleared-first
 
+  cleared-begins : firstEntered t 0 ≡ 0
+  unfolding firstEntered
+  cleared-begins = cleared-first
+
   pub emptied : Emptied s t
-  unfolding walking Outside enteredBy
+  unfolding walking Outside
   emptied =
       record {
         wrote =
@@ -508,12 +525,13 @@ module _ (s u v t : List ℕ) (n : ℕ) (l : Long s) (en : n ≡ cap (word s 0) 
               size = rw et (length-setWord v 20 0 ∙ size-v);
               other = λ j o. cleared-other j (o .0) (clear-of 2441300 4 2310228 2506848 j (omega arith) (omega arith) (o .1 .0)) ∙ d .wrote .other j (clear-of 2310228 131072 2310228 2506848 j (omega arith) (omega arith) (o .1 .0), tt);
             };
-        still = still-then (d .still) (still-then {u = v} (rw ev (still-setWord u 2441300 0 (omega arith))) (rw et (still-setWord v 20 0 (omega arith))));
+        still = still-then (d .still) (still-then {u = v} (rw ev (still-setWord u 2441300 0 (omega arith) (λ z. omega arith))) (rw et (still-setWord v 20 0 (omega arith) (λ z. omega arith))));
         is = scopes-are (scopesIn t) (record { scopes = []; ofExpr = replicate (length (exprsOf s)) none }) cleared-scopes cleared-placed;
         neat =
             record {
+              counted = rw cleared-count (omega arith);
+              begins = cleared-begins;
+              follows = λ i h. let z : i < 0 = rw cleared-count at h in absurd (omega arith);
               few = rw cleared-used (omega arith);
-              below = λ i h. let z : i < 0 = rw no-scopes at h in absurd (omega arith);
-              all = cleared-used ∙ rw cleared-scopes;
             };
       }

@@ -17,6 +17,7 @@ use Rattle.kept.specs.Walks.{enteredBy, kindFits, tryOpen, usedNames, wa
 use Rattle.layout.proofs.RowLaws.{length-rows}
 use Rattle.layout.proofs.Frames.{wrote-then}
 use Rattle.layout.proofs.WriteLaws.{still-then}
+use Rattle.kept.proofs.NeatLaws.{neat-all}
 
 pub walked-then : {A B : Type 0} (p : Walk A) (q : A → Walk B) {s u t : List ℕ} {a : A} {b : B} → Walked p s a u → Walked (q a) u b t → Walked (p >>= q) s b t
 unfolding _>>=_
@@ -78,6 +79,6 @@ open-waiting xs n outer {r} {s} {t} d e w =
       still = w .still;
       does = λ neat.
           let f = w .does neat in
-          let same : enteredBy (scopesIn s .scopes) + length xs ≤ nameLimit → waitingNames s n ≡ xs = λ h. rw e at (d .are (rw (neat .all) h)) in
+          let same : enteredBy (scopesIn s .scopes) + length xs ≤ nameLimit → waitingNames s n ≡ xs = λ h. rw e at (d .are (rw (neat-all s neat) h)) in
           (f .0 ∙ open-either (waitingNames s n) xs outer (scopesIn s) (length-waiting s n ∙ sym e) same, f .1);
     }

@@ -2,7 +2,7 @@
 use mathlib.Core.Path.{_≡_}
 use mathlib.Core.List.{List, [], _∷_, _++_}
 use mathlib.Core.Option.{Option, none, some}
-use Prim.Native.Nat.{ℕ, _+_, _-_}
+use Prim.Native.Nat.{ℕ, _+_, _-_, _*_, _≤_, _<_}
 use lib.ListN.{set}
 use lib.Dec.{eqb, ltb}
 use Rattle.spec.specs.Basics.{ExprId, NameId, ScopeId, if_then_else_}
@@ -14,7 +14,9 @@ use Rattle.kept.specs.declared.answers.Answer.{Answer}
 use Rattle.kept.specs.declared.answers.Answer.the-variants.{Unresolved, Definition, Builtin, Withs}
 use Rattle.kept.specs.declared.answers.MaybeAnswer.{MaybeAnswer}
 use Rattle.kept.specs.declared.answers.MaybeAnswer.the-variants.{Kept as Is, Absent}
-use Rattle.layout.specs.Layout.{absent, nameLimit}
+use Rattle.words.specs.Words.{word}
+use Rattle.layout.specs.Layout.{absent, exprCount, nameCount, usesAt, exprLimit, nameLimit}
+use Rattle.layout.specs.Rows.{cap}
 use Rattle.layout.specs.Changes.{Wrote, Still}
 use Rattle.layout.specs.Keeps.{keptIn}
 
@@ -65,8 +67,19 @@ keepAnswer e a k =
     if eqb (answerNumber a) absent then k
     else record { lowered = k .lowered; scopes = k .scopes; answers = set (k .answers) e (answeredNow k e a); references = k .references; spent = k .spent }
 
--- The answer a of the expression e is kept; nothing else is another.
+-- The answer a of the expression e is kept, as its number, and nothing else is another. An expression that is no Reference has the word too.
 pub record Answered (e : ExprId) (a : Answer) (s t : List ℕ) : Type 0 where
-  pub wrote : Wrote ((2310228, 2441300) ∷ []) s t
+  pub wrote : Wrote ((usesAt + 8 * e + 4, usesAt + 8 * e + 8) ∷ []) s t
   pub still : Still s t
   pub does : keptIn t ≡ keepAnswer e a (keptIn s)
+  pub row : e < cap (word s exprCount) exprLimit → (answerNumber a ≡ absent → ⊥) → word t (usesAt + 8 * e + 4) ≡ answerNumber a
+  pub past : cap (word s exprCount) exprLimit ≤ e → t ≡ s
+
+-- ---- of the rows beside what they say
+-- what stands as the answer of an expression, which may be no Reference, is the number of one that there can be
+unfoldable pub AnswerFits : List ℕ → ExprId → Type 0
+AnswerFits s e = word s (usesAt + 8 * e + 4) < 24 + word s nameCount
+
+-- the scope of no expression is another
+pub record Unmoved (s t : List ℕ) : Type 0 where
+  pub scope : (e : ExprId) → e < exprLimit → word t (usesAt + 8 * e) ≡ word s (usesAt + 8 * e)

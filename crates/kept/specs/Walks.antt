@@ -13,7 +13,7 @@ use Rattle.layout.specs.Layout.{scopeCount, usesAt, scopesAt, enteredAt, exprLi
 use Rattle.layout.specs.Rows.{cap, rowsTo}
 use Rattle.layout.specs.Changes.{Range, Wrote, Still}
 use Rattle.layout.specs.States.{exprsOf}
-use Rattle.layout.specs.Keeps.{firstEntered, scopesIn}
+use Rattle.layout.specs.Keeps.{firstEntered, scopeIn, scopesIn}
 
 -- ---- reading
 -- the names that are entered in a scope, and its With
@@ -68,11 +68,13 @@ usedNames s = firstEntered s (cap (word s scopeCount) scopeLimit)
 unfoldable pub waitingNames : List ℕ → ℕ → List NameId
 waitingNames s n = rowsTo (λ k. word s (enteredAt + 4 * (usedNames s + k))) n
 
--- No scope reaches past the names that are entered, and these fit; none of them is in no scope.
+-- The scopes are what decoding takes them for. Their names lie one after the other from 0 on, each scope's right after those of the scope ahead of it, and all that are
+-- entered fit; a scope for a With has none.
 pub record Neat (s : List ℕ) : Type 0 where
+  pub counted : word s scopeCount ≤ scopeLimit
+  pub begins : firstEntered s 0 ≡ 0
+  pub follows : (i : ScopeId) → i < word s scopeCount → firstEntered s (i + 1) ≡ firstEntered s i + length (namesEntered (scopeIn s i .kind))
   pub few : usedNames s ≤ nameLimit
-  pub below : (i : ScopeId) → i < cap (word s scopeCount) scopeLimit → firstEntered s i ≤ usedNames s
-  pub all : usedNames s ≡ enteredBy (scopesIn s .scopes)
 
 -- From the store s the step gave r and left the store t; the module, the kept references, the nodes and the texts are as they were.
 pub record Walked {A : Type 0} (p : Walk A) (s : List ℕ) (r : A) (t : List ℕ) : Type 0 where

@@ -7,7 +7,7 @@ use mathlib.Core.Option.{Option, none, some}
 use Prim.Native.Nat.{ℕ, zero, suc, _+_, _≤_, _<_}
 use native.Mathlib.Omega.{arith}
 use native.Mathlib.Numerals.{add-one}
-use lib.ListN.{length, drop, length-drop, List·getD-eq-default, drop-of-length-le}
+use lib.ListN.{length, getD, drop, length-drop, List·getD-eq-default, drop-of-length-le}
 use lib.Seq.{drop-cons}
 use lib.Dec.{eqb, ltb}
 use borrow.Author.Tests.{eq-eqb, ne-eqb, eqb-true, ltb-true, ltb-false}
@@ -54,6 +54,20 @@ from-within s e x h =
     let c = cap-lim (word s exprCount) exprLimit in
     let d = length-drop e as′ in
     answered-within x e 16384 (drop e as′) (omega arith)
+
+-- each of them is an expression in use
+pub from-used : (s : List ℕ) (x k : ℕ) → k < length (answeredFrom s 0 x) → getD (answeredFrom s 0 x) k 0 < cap (word s exprCount) exprLimit
+unfolding answeredFrom
+from-used s x k h =
+    let as′ = keptIn s .answers in
+    let l = length-answers s in
+    let d = length-drop 0 as′ in
+    within-at 0 (cap (word s exprCount) exprLimit) (answeredWith x 0 (drop 0 as′)) (answered-within x 0 (cap (word s exprCount) exprLimit) (drop 0 as′) (omega arith)) k h
+  where
+    within-at : (lo hi : ℕ) (es : List ℕ) → Within lo hi es → (i : ℕ) → i < length es → getD es i 0 < hi
+    within-at lo hi [] w i q = absurd (omega arith)
+    within-at lo hi (e ∷ es) w zero q = w .0 .1
+    within-at lo hi (e ∷ es) w (suc i) q = within-at lo hi es (w .1) i (omega arith)
 
 -- past the last expression nothing is answered
 pub from-end : (s : List ℕ) (e x : ℕ) → cap (word s 0) 16384 ≤ e → answeredFrom s e x ≡ []

@@ -58,7 +58,7 @@ module _ {rs : List Range} {s t : List ℕ} (w : Wrote rs s t) (c : apart (0, 4)
 
 -- ---- clearing
 pub unheaded-none : (s : List ℕ) → Unheaded 0 s s
-unheaded-none s = record { wrote = wrote-none linking s; still = record { same = refl }; gone = λ x h. absurd (omega arith) }
+unheaded-none s = record { wrote = wrote-none linking s; still = record { same = refl; used = refl }; gone = λ x h. absurd (omega arith) }
 
 pub unheaded-more : (s u t : List ℕ) (x : ℕ) → Long s → x < 4096 → Unheaded x s u → t ≡ setWord u (2654308 + 4 * x) 0 → Unheaded (x + 1) s t
 unfolding Outside linking headOf
@@ -67,7 +67,7 @@ unheaded-more s u t x l h d et =
     let other : (j : ℕ) → (j + 4 ≤ at) ⊎ (at + 4 ≤ j) → word t j ≡ word u j = λ j o. rw et (word-setWord-other u at 0 j o) in
     record {
       wrote = wrote-then (d .wrote) (record { size = rw et (length-setWord u at 0); other = λ j o. other j (clear-of at 4 2588772 2785380 j (omega arith) (omega arith) (o .0)) });
-      still = still-then (d .still) (rw et (still-setWord u at 0 (omega arith)));
+      still = still-then (d .still) (rw et (still-setWord u at 0 (omega arith) (λ z. omega arith)));
       gone = λ y z. gone y (ltb y x) refl z;
     }
   where
@@ -86,7 +86,7 @@ pub links-none : (s : List ℕ) (n e : ℕ) → meant (keptAnswer (keptIn s) e) 
 links-none s n e m =
     record {
       wrote = wrote-none linking s;
-      still = record { same = refl };
+      still = record { same = refl; used = refl };
       links = λ p. record { chain = λ x h. rw (from-none s e x m) (p .chain x h) };
     }
 
@@ -94,7 +94,7 @@ pub links-past : (s : List ℕ) (n e y : ℕ) → meant (keptAnswer (keptIn s) e
 links-past s n e y m k =
     record {
       wrote = wrote-none linking s;
-      still = record { same = refl };
+      still = record { same = refl; used = refl };
       links = λ p. record { chain = λ x h. rw (from-else s e x y m (λ q. omega arith)) (p .chain x h) };
     }
 
@@ -118,7 +118,7 @@ module _ (s u t : List ℕ) (n e x head : ℕ) (l : Long s) (he : e < 16384) (hn
       }
 
   link-still : Still s t
-  link-still = still-then {u = u} (rw eu (still-setWord s (2588772 + 4 * e) head (omega arith))) (rw et (still-setWord u (2654308 + 4 * x) (e + 1) (omega arith)))
+  link-still = still-then {u = u} (rw eu (still-setWord s (2588772 + 4 * e) head (omega arith) (λ z. omega arith))) (rw et (still-setWord u (2654308 + 4 * x) (e + 1) (omega arith) (λ z. omega arith)))
 
   link-from : (k y : ℕ) → answeredFrom t k y ≡ answeredFrom s k y
   unfolding linking
@@ -180,7 +180,7 @@ linking-none s n count k ek e =
     let h : cap (word s 0) 16384 ≤ count = rw (e, ek) (omega arith) in
     record {
       wrote = wrote-none linking s;
-      still = record { same = refl };
+      still = record { same = refl; used = refl };
       links = λ z. record { chain = λ x l. rw (from-end s count x h) (z x l) };
     }
 

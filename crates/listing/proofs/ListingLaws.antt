@@ -1,27 +1,31 @@
 -- Kept references listed anew: the list of one name, of all of them, and the whole. Assumes nothing.
 use mathlib.Core.Path.{_≡_, refl, sym, ap, _∙_}
+use mathlib.Core.Bool.{Bool, true, false}
 use mathlib.Core.List.{List, [], _∷_, _++_, append-nil}
-use Prim.Native.Nat.{ℕ, suc, _+_, _-_, _*_, _≤_, _<_}
+use Prim.Native.Nat.{ℕ, zero, suc, _+_, _-_, _*_, _≤_, _<_}
 use native.Mathlib.Omega.{arith}
-use lib.ListN.{length, length-append}
+use lib.ListN.{length, getD, length-append}
 use lib.Seq.{append-snoc}
+use lib.Dec.{ltb}
+use borrow.Author.Tests.{ltb-true, ltb-false}
 use Rattle.words.specs.Words.{word}
 use Rattle.spec.specs.Kept.{tabulate, answeredWith}
 use Rattle.spec.specs.Lower.{moduleOf}
-use Rattle.layout.specs.Layout.{nameCount, nameLimit, referencesAt}
-use Rattle.layout.specs.Rows.{cap, rowsTo}
+use Rattle.spec.proofs.Sums.{compared}
+use Rattle.layout.specs.Layout.{exprCount, nameCount, exprLimit, nameLimit, referencesAt}
+use Rattle.layout.specs.Rows.{cap, rowsTo, rowsFrom}
 use Rattle.layout.specs.Changes.{Range, Outside, Wrote, Still}
 use Rattle.layout.specs.States.{nameIn, namesOf, stateOf, moduleIn}
 use Rattle.layout.specs.Keeps.{firstReference, referencesOf, keptIn}
 use Rattle.layout.proofs.Frames.{number-kept, wrote-then}
-use Rattle.layout.proofs.RowLaws.{rows-same, length-rows, rows-none, rows-more, rows-join}
+use Rattle.layout.proofs.RowLaws.{rows-same, length-rows, getD-rows, rows-none, rows-more, rows-join, cap-le}
 use Rattle.layout.proofs.WriteLaws.{still-then}
 use Rattle.kept.specs.References.{listing, listedBy, listsTo, waitingFor, Listed, withReferences, Relisted, Unlisted, Refers, Ended}
 use Rattle.kept.proofs.KeepFrames.{module-kept, scopes-kept, answers-kept}
 use Rattle.kept.proofs.ReferenceLaws.{relisted, not-listing}
 use Rattle.listing.specs.Links.{linking, nextOf, headOf, Chained, answeredFrom, Linked, Links}
 use Rattle.listing.specs.Lists.{relisting, Lists, Ready, ListsOne, ListsAll}
-use Rattle.listing.proofs.AnsweredLaws.{Within, from-within, references-fit}
+use Rattle.listing.proofs.AnsweredLaws.{Within, from-within, from-used, references-fit}
 use Rattle.listing.proofs.LinkLaws.{from-same, next-same, still-chained, still-linked}
 
 -- ---- writes of kept references alone
@@ -177,7 +181,42 @@ listing-more x s t u d o =
     }
 
 pub listing-done : (x n : ℕ) (s t : List ℕ) → Listing x s t → x ≤ n → n ≤ x → ListsAll n s t
-listing-done x n s t d a b = let q : x ≡ n = omega arith in record { relisted = d .relisted; lists = rw q at (d .lists) }
+listing-done x n s t d a b = let q : x ≡ n = omega arith in record { relisted = d .relisted; listed = rw q at (d .listed); lists = rw q at (d .lists) }
+
+-- what lies before the lists of the name x lies in one of the lists before it
+in-lists : (t : List ℕ) (m x : ℕ) → firstReference t 0 ≡ 0 → ((y : ℕ) → y ≤ x → firstReference t y ≤ 16384)
+    → ((y k : ℕ) → y < x → k < length (referencesOf t y) → getD (referencesOf t y) k 0 < m) → (j : ℕ) → j < firstReference t x → word t (referencesAt + 4 * j) < m
+unfolding referencesOf rowsFrom
+in-lists t m zero z low own j h = absurd (omega (arith, z))
+in-lists t m (suc x) z low own j h = go (ltb j (firstReference t x)) refl (in-lists t m x z (λ y l. low y (omega arith)) (λ y k l. own y k (omega arith)) j)
+  where
+    here : firstReference t x ≤ j → word t (referencesAt + 4 * j) < m
+    here l =
+        let a = cap-le (firstReference t x) 16384 (low x (omega arith)) in
+        let q : x + 1 ≡ suc x = omega arith in
+        let b = cap-le (firstReference t (suc x)) 16384 (low (suc x) (omega arith)) in
+        let n = length-rows (λ i. word t (referencesAt + 4 * (firstReference t x + i))) (firstReference t (suc x) - firstReference t x) in
+        let k : j - firstReference t x < firstReference t (suc x) - firstReference t x = omega arith in
+        let o = own x (j - firstReference t x) (omega arith) in
+        let e : firstReference t x + (j - firstReference t x) ≡ j = omega arith in
+        let g = getD-rows (λ i. word t (referencesAt + 4 * (firstReference t x + i))) (firstReference t (suc x) - firstReference t x) (j - firstReference t x) 0 k in
+        rw e at (rw g at (rw (q, a, b) at o (rw n k)))
+
+    go : (b : Bool) → ltb j (firstReference t x) ≡ b → (j < firstReference t x → word t (referencesAt + 4 * j) < m) → word t (referencesAt + 4 * j) < m
+    go true e before = before (ltb-true j (firstReference t x) e)
+    go false e before = here (ltb-false j (firstReference t x) e)
+
+-- what is listed are expressions in use
+lists-used : (n : ℕ) (s t : List ℕ) → ListsAll n s t → (j : ℕ) → j < firstReference t n → word t (referencesAt + 4 * j) < cap (word s exprCount) exprLimit
+unfolding listsTo
+lists-used n s t d =
+    in-lists t (cap (word s exprCount) exprLimit) n (d .listed .begins) few (λ y k l q. rw (own y l) (from-used s y k (rw (own y l) at q)))
+  where
+    few : (y : ℕ) → y ≤ n → firstReference t y ≤ 16384
+    few y l = compared y n (λ e. rw e (d .listed .few)) (λ e. omega (arith, d .listed .few, d .listed .below y (omega arith)))
+
+    own : (y : ℕ) → y < n → referencesOf t y ≡ answeredFrom s 0 y
+    own y l = sym (getD-rows (referencesOf t) n y [] l) ∙ ap (λ (ess : List (List ℕ)). getD ess y []) (d .lists) ∙ getD-rows (answeredFrom s 0) n y [] l
 
 -- ---- the whole
 tabulate-rows : {A B : Type 0} (f : ℕ → B) (i : ℕ) (xs : List A) → tabulate f i xs ≡ rowsTo (λ k. f (i + k)) (length xs)
@@ -230,5 +269,7 @@ listed-anew s a b t k n ek en l u d =
     record {
       wrote = w;
       still = still;
+      listed = rw (← e) (d .listed);
+      exprs = λ j h. rw (sym (number-kept to-b 0 refl)) (lists-used n b t d j (rw (← e) at h));
       does = kept-but s t (tabulate (λ x. answeredWith x 0 (keptIn s .answers)) 0 (keptIn s .lowered .names)) w still (ap (rowsTo (referencesOf t)) count ∙ d .lists ∙ from ∙ ap (rowsTo (answeredFrom s 0)) e ∙ listed-by s);
     }

@@ -1,14 +1,15 @@
 -- Kept references in a store, listed anew from the kept answers.
 use mathlib.Core.Path.{_≡_}
 use mathlib.Core.List.{List, [], _∷_, _++_}
-use Prim.Native.Nat.{ℕ, _+_, _≤_, _<_}
+use Prim.Native.Nat.{ℕ, _+_, _*_, _≤_, _<_}
 use lib.ListN.{length}
+use Rattle.words.specs.Words.{word}
 use Rattle.spec.specs.Basics.{NameId}
 use Rattle.spec.specs.Kept.{tabulate, answeredWith}
-use Rattle.layout.specs.Layout.{nameLimit, referenceLimit}
-use Rattle.layout.specs.Rows.{rowsTo}
+use Rattle.layout.specs.Layout.{exprCount, nameCount, referencesAt, exprLimit, nameLimit, referenceLimit}
+use Rattle.layout.specs.Rows.{cap, rowsTo}
 use Rattle.layout.specs.Changes.{Range, Wrote, Still}
-use Rattle.layout.specs.Keeps.{keptIn}
+use Rattle.layout.specs.Keeps.{firstReference, keptIn}
 use Rattle.kept.specs.References.{listedBy, listsTo, Listed, withReferences, Relisted}
 use Rattle.listing.specs.Links.{headOf, Chained, answeredFrom}
 
@@ -16,10 +17,13 @@ use Rattle.listing.specs.Links.{headOf, Chained, answeredFrom}
 unfoldable pub relisting : List Range
 relisting = (2506848, 2588772) ∷ (2588772, 2785380) ∷ []
 
--- The kept references are those that the kept answers say, and nothing else that is kept is another.
+-- The kept references are those that the kept answers say, and nothing else that is kept is another. Their lists lie one after the other, and what they list
+-- are expressions in use.
 pub record Lists (s t : List ℕ) : Type 0 where
   pub wrote : Wrote relisting s t
   pub still : Still s t
+  pub listed : Listed (cap (word s nameCount) nameLimit) t
+  pub exprs : (j : ℕ) → j < firstReference t (cap (word s nameCount) nameLimit) → word t (referencesAt + 4 * j) < cap (word s exprCount) exprLimit
   pub does : keptIn t ≡ withReferences (tabulate (λ x. answeredWith x 0 (keptIn s .answers)) 0 (keptIn s .lowered .names)) (keptIn s)
 
 -- ---- the way there
@@ -39,4 +43,5 @@ pub record ListsOne (x : NameId) (s t : List ℕ) : Type 0 where
 -- The first n names have their lists.
 pub record ListsAll (n : ℕ) (s t : List ℕ) : Type 0 where
   pub relisted : Relisted s t
+  pub listed : Listed n t
   pub lists : listsTo t n ≡ rowsTo (answeredFrom s 0) n

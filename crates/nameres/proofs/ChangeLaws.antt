@@ -9,6 +9,7 @@ use native.Mathlib.Omega.{arith}
 use lib.ListN.{length}
 use Rattle.words.specs.Words.{word}
 use Rattle.words.specs.Equality.{equalb}
+use Rattle.words.proofs.EqualityLaws.{equalb-false}
 use Rattle.spec.specs.Basics.{Text, ExprId, NameId}
 use Rattle.spec.specs.Module.{Module}
 use Rattle.spec.specs.Scopes.{Scopes, exprAt, nameAt}
@@ -21,20 +22,26 @@ use Rattle.layout.specs.Regions.{resolving, spending, changing}
 use Rattle.layout.specs.Texts.{textIn, maybeText}
 use Rattle.layout.specs.States.{moduleIn}
 use Rattle.layout.specs.Keeps.{scopesIn, keptIn}
-use Rattle.layout.proofs.Frames.{wrote-none, text-still}
-use Rattle.soundness.specs.Sound.{sound}
+use Rattle.layout.proofs.Frames.{number-kept, wrote-none, text-still}
+use Rattle.soundness.specs.Sound.{textFits, keptFits, sound}
+use Rattle.soundness.specs.Coded.{ModuleFits, ScopesFit}
+use Rattle.soundness.proofs.CodedLaws.{sound-parts, sound-module, sound-scopes, sound-kept, sound-room, sound-texts}
+use Rattle.soundness.proofs.FrameLaws.{module-fits-kept, scopes-fit-apart, kept-each, kept-fits-kept}
 use Rattle.kept.specs.TextChanges.{texting, taken, Texted, withModule, Renamed, setIfReference, whereText, Reworded, Spent}
-use Rattle.nameres.specs.Resolution.{Nameable, ResolvedAgain}
+use Rattle.kept.proofs.SoundChanges.{texted-module, renamed-wrote, renamed-module, reworded-wrote, reworded-module}
+use Rattle.nameres.specs.Resolution.{Nameable, Scoped, ResolvedAgain}
+use Rattle.kept.specs.Answers.{AnswerFits}
 use Rattle.module.specs.declared.ids.MaybeText.{MaybeText}
 use Rattle.module.specs.declared.ids.MaybeText.the-variants as maybe-text
 use Rattle.nameres.specs.Changed.{changed, Spends, Changes, ChangesReference}
-use Rattle.nameres.proofs.SoundNames.{Counted, counted, sound-named}
+use Rattle.nameres.proofs.SoundNames.{sound-scoped, scoped-named}
+use Rattle.nameres.proofs.ResolveLaws.{resolving-scopes}
 
 -- what a text takes is there as long as the change room holds it
 fits : (s : List ℕ) (bytes : Text) → sound s ≡ true → keptIn s .spent + length bytes ≤ roomLimit → word s textsPlace + taken bytes ≤ textLimit
 unfolding keptIn taken
-fits s [] h l = let c = counted s h in omega (arith, c .texts, c .spent)
-fits s (b ∷ bs) h l = let c = counted s h in omega (arith, c .texts)
+fits s [] h l = omega (arith, sound-texts s h, sound-room s h)
+fits s (b ∷ bs) h l = omega (arith, sound-texts s h)
 
 -- ranges that lie in others
 record Inside (rs qs : List Range) : Type 0 where
@@ -91,10 +98,16 @@ module _ (k : Kept) (x : ℕ) (bytes : Text) (reply : ℕ) where
 -- an equal text changes nothing
 equal-name : (s : List ℕ) (x : NameId) (bytes : Text) (reply : ℕ) → equalb (nameAt (moduleIn s) x .text) bytes ≡ true → Changes (changeName x bytes reply) s s
 unfolding changed keptWith oldText newText keptIn
-equal-name s x bytes reply h = record { wrote = wrote-none changing s; does = λ _ _. rw h }
+equal-name s x bytes reply h = record { wrote = wrote-none changing s; does = λ _ _. rw h; leaves = λ q _. q; equal = λ _. refl }
 
 pub unchanged-name : (s : List ℕ) (x k : ℕ) (bytes : Text) (r : Bool) → textIn s k ≡ nameAt (moduleIn s) x .text → r ≡ equalb (textIn s k) bytes → r ≡ true → (reply : ℕ) → Changes (changeName x bytes reply) s s
 unchanged-name s x k bytes r a b c reply = equal-name s x bytes reply (rw (← a, ← b, c))
+
+-- what a text takes is at most five times its length
+taken-low : (bytes : Text) → taken bytes ≤ 5 * length bytes
+unfolding taken
+taken-low [] = omega arith
+taken-low (b ∷ bs) = omega arith
 
 -- ---- another text: it is added, a row gets its number, the room is spent, and what bears the old or the new text is resolved again
 module _ (s0 s1 s2 s3 s4 : List ℕ) (bytes old : Text) (k o : ℕ) (m : Module) (added : Texted bytes s0 k s1)
@@ -116,11 +129,75 @@ module _ (s0 s1 s2 s3 s4 : List ℕ) (bytes old : Text) (k o : ℕ) (m : Module)
 
     named-then : Nameable (scopesIn s3)
     unfolding keptIn
-    named-then = rw (ap (λ (q : Kept). q .scopes) after-room) (sound-named s0 h)
+    named-then = rw (ap (λ (q : Kept). q .scopes) after-room) (scoped-named s0 (sound-scoped s0 h))
 
     pub changed-to : keptIn s4 ≡ changedTo (keptIn s0) m old bytes (keptIn s0 .spent + length bytes)
     unfolding changedTo resolvedAgain keptAnswer
     changed-to = again .does named-then ∙ rw (texts-same o, was h, texts-same k, new-is, after-room)
+
+-- the bytes are sound then
+module _ (s0 s1 s2 s3 s4 : List ℕ) (bytes old new : Text) (k : ℕ) (added : Texted bytes s0 k s1) (put : Wrote ((64, 2310228) ∷ []) s1 s2)
+    (row : textFits s1 k ≡ true → ModuleFits s1 → ModuleFits s2) (spends : Spends (length bytes) s2 s3) (again : ResolvedAgain old new s3 s4)
+    (h : sound s0 ≡ true) (room : keptIn s0 .spent + length bytes ≤ roomLimit) where
+  module-first : ModuleFits s1
+  module-first = texted-module bytes s0 k s1 added (sound-module s0 h)
+
+  module-second : ModuleFits s2
+  module-second = row (added .is (fits s0 bytes h room) .1) module-first
+
+  module-third : ModuleFits s3
+  module-third = module-fits-kept (spends .wrote) (spends .still) refl refl refl module-second
+
+  scopes-third : ScopesFit s3
+  unfolding texting
+  scopes-third =
+      scopes-fit-apart (spends .wrote) refl refl refl (module-second .fewExprs)
+      (scopes-fit-apart put refl refl refl (module-first .fewExprs)
+      (scopes-fit-apart (added .wrote) refl refl refl (sound-module s0 h .fewExprs) (sound-scopes s0 h)))
+
+  kept-third : keptFits s3 ≡ true
+  unfolding texting
+  kept-third =
+      let m = sound-module s0 h in
+      kept-fits-kept (spends .wrote) refl refl refl refl (module-second .fewExprs) (module-second .fewNames)
+      (kept-fits-kept put refl refl refl refl (module-first .fewExprs) (module-first .fewNames)
+      (kept-fits-kept (added .wrote) refl refl refl refl (m .fewExprs) (m .fewNames) (sound-kept s0 h)))
+
+  scoped-third : Scoped s3
+  scoped-third = record { fits = scopes-third; fewExprs = module-third .fewExprs; fewNames = module-third .fewNames }
+
+  kept-fourth : keptFits s4 ≡ true
+  unfolding AnswerFits
+  kept-fourth = again .fits scoped-third (kept-each s3 kept-third .answers)
+
+  spent-second : keptIn s2 .spent ≡ keptIn s0 .spent
+  unfolding keptIn texting
+  spent-second = number-kept put 24 refl ∙ number-kept (added .wrote) 24 refl
+
+  room-then : word s0 spentPlace + length bytes ≤ roomLimit
+  unfolding keptIn
+  room-then = room
+
+  spent-fourth : word s4 spentPlace ≡ word s0 spentPlace + length bytes
+  unfolding keptIn
+  spent-fourth = number-kept (again .wrote) 24 refl ∙ ap (λ (q : Kept). q .spent) (spends .does (rw spent-second room)) ∙ rw spent-second
+
+  texts-fourth : word s4 textsPlace ≡ word s0 textsPlace + taken bytes
+  texts-fourth = number-kept (again .wrote) 28 refl ∙ number-kept (spends .wrote) 28 refl ∙ number-kept put 28 refl ∙ added .used (fits s0 bytes h room)
+
+  -- THEOREM. A change of a sound store whose room holds the text leaves a sound store.
+  pub changed-sound : sound s4 ≡ true
+  changed-sound =
+      sound-parts s4 (module-fits-kept (again .wrote) (again .still) refl refl refl module-third)
+      (resolving-scopes s3 s4 (again .wrote) (again .placed) scoped-third)
+      (omega (arith, spent-fourth, room-then))
+      (omega (arith, spent-fourth, texts-fourth, taken-low bytes, sound-texts s0 h))
+      kept-fourth
+
+-- a write of a part of the module
+wrote-module : {lo hi : ℕ} {s t : List ℕ} → 64 ≤ lo → hi ≤ 2310228 → Wrote ((lo, hi) ∷ []) s t → Wrote ((64, 2310228) ∷ []) s t
+unfolding Outside
+wrote-module a b w = record { size = w .size; other = λ j o. w .other j (⊎-elim (λ z. inl (omega arith)) (λ z. inr (omega arith)) (o .0), tt) }
 
 module _ (s0 s1 s2 s3 s4 : List ℕ) (x k o o0 : ℕ) (bytes : Text) (r : Bool) (first : textIn s0 o0 ≡ nameAt (moduleIn s0) x .text)
     (compared : r ≡ equalb (textIn s0 o0) bytes) (differs : r ≡ false) (added : Texted bytes s0 k s1)
@@ -140,24 +217,31 @@ module _ (s0 s1 s2 s3 s4 : List ℕ) (x k o o0 : ℕ) (bytes : Text) (r : Bool) 
   name-was h = reads ∙ rw (module-same h)
 
   name-wrote : Wrote changing s0 s4
-  name-wrote = four-wrote texts-inside (added .wrote) names-inside (put .wrote) spent-inside (spends .wrote) again-inside (again .wrote)
+  name-wrote = four-wrote texts-inside (added .wrote) names-inside (renamed-wrote x k s1 s2 put) spent-inside (spends .wrote) again-inside (again .wrote)
 
   -- THEOREM. The name has the text, and everything kept is as the definition of a change has it.
   pub name-changed : (reply : ℕ) → Changes (changeName x bytes reply) s0 s4
-  unfolding newText keptIn
+  unfolding newText oldText keptIn
   name-changed reply =
       record {
         wrote = name-wrote;
         does = λ h room.
             changed-to s0 s1 s2 s3 s4 bytes (nameAt (moduleIn s0) x .text) k o (setName x bytes (moduleIn s0)) added (put .still) spends again name-row name-was h room
             ∙ sym (sets-name (keptIn s0) x bytes reply name-differs);
+        leaves = changed-sound s0 s1 s2 s3 s4 bytes (textIn s3 o) (textIn s3 k) k added (wrote-module (omega arith) (omega arith) (renamed-wrote x k s1 s2 put)) (renamed-module x k s1 s2 put) spends again;
+        equal = λ q. absurd (equalb-false (nameAt (moduleIn s0) x .text) bytes name-differs q);
       }
 
 -- ---- a Reference
+reference-not : (s : List ℕ) (e : ExprId) (bytes : Text) (k reply : ℕ) → referenceText (exprAt (moduleIn s) e) ≡ some (textIn s k) → equalb (textIn s k) bytes ≡ false
+    → oldText (keptIn s .lowered) (changeReference e bytes reply) ≡ newText (changeReference e bytes reply) → ⊥
+unfolding oldText newText orEmpty keptIn
+reference-not s e bytes k reply a b q = equalb-false (textIn s k) bytes b (rw a at q)
+
 module _ (s : List ℕ) (e : ExprId) (bytes : Text) where
   pub unchanged-reference : (k : ℕ) (r : Bool) → referenceText (exprAt (moduleIn s) e) ≡ some (textIn s k) → r ≡ equalb (textIn s k) bytes → r ≡ true → (reply : ℕ) → Changes (changeReference e bytes reply) s s
   unfolding changed keptWith oldText newText keptIn orEmpty
-  unchanged-reference k r a b c reply = record { wrote = wrote-none changing s; does = λ _ _. rw (a, ← b, c) }
+  unchanged-reference k r a b c reply = record { wrote = wrote-none changing s; does = λ _ _. rw (a, ← b, c); leaves = λ q _. q; equal = λ _. refl }
 
 module _ (s0 s1 s2 s3 s4 : List ℕ) (e k o o0 : ℕ) (bytes : Text) (r : Bool) (first : referenceText (exprAt (moduleIn s0) e) ≡ some (textIn s0 o0))
     (compared : r ≡ equalb (textIn s0 o0) bytes) (differs : r ≡ false) (added : Texted bytes s0 k s1)
@@ -178,7 +262,7 @@ module _ (s0 s1 s2 s3 s4 : List ℕ) (e k o o0 : ℕ) (bytes : Text) (r : Bool) 
   word-was h = let z : some (textIn s1 o) ≡ some (textIn s0 o0) = sym reads ∙ rw (same-module h) first in cc
 
   word-wrote : Wrote changing s0 s4
-  word-wrote = four-wrote texts-inside (added .wrote) words-inside (put .wrote) spent-inside (spends .wrote) again-inside (again .wrote)
+  word-wrote = four-wrote texts-inside (added .wrote) words-inside (reworded-wrote e k s1 s2 put) spent-inside (spends .wrote) again-inside (again .wrote)
 
   -- THEOREM. The Reference has the text, and everything kept is as the definition of a change has it.
   pub reference-changed : (reply : ℕ) → Changes (changeReference e bytes reply) s0 s4
@@ -189,6 +273,8 @@ module _ (s0 s1 s2 s3 s4 : List ℕ) (e k o o0 : ℕ) (bytes : Text) (r : Bool) 
         does = λ h room.
             changed-to s0 s1 s2 s3 s4 bytes (textIn s0 o0) k o (setReference e bytes (moduleIn s0)) added (put .still) spends again word-row word-was h room
             ∙ sym (sets-reference (keptIn s0) e bytes reply (textIn s0 o0) first word-differs);
+        leaves = changed-sound s0 s1 s2 s3 s4 bytes (textIn s3 o) (textIn s3 k) k added (wrote-module (omega arith) (omega arith) (reworded-wrote e k s1 s2 put)) (reworded-module e k s1 s2 put) spends again;
+        equal = λ q. absurd (reference-not s0 e bytes o0 reply first word-differs q);
       }
 
 -- ---- the room
@@ -197,7 +283,7 @@ module _ (s : List ℕ) (n before : ℕ) (b : before ≡ keptIn s .spent) where
   spends-nothing o =
       record {
         wrote = wrote-none spending s;
-        still = record { same = refl };
+        still = record { same = refl; used = refl };
         does = λ l. ⊎-elim (λ z. absurd (omega (arith, b))) (λ z. absurd (omega arith)) o;
       }
 
@@ -205,23 +291,28 @@ module _ (s : List ℕ) (n before : ℕ) (b : before ≡ keptIn s .spent) where
   spends-more t v e p = record { wrote = p .wrote; still = p .still; does = λ l. p .does ∙ rw (b, e) }
 
 -- ---- a Reference stays one while a text is added
-pub reference-stays : (s0 s1 : List ℕ) (e k o : ℕ) (bytes : Text) → referenceText (exprAt (moduleIn s0) e) ≡ some (textIn s0 o) → Texted bytes s0 k s1
-    → referenceText (exprAt (moduleIn s1) e) ≡ none → ChangesReference e bytes s0 s1
+pub reference-stays : (s0 s1 : List ℕ) (e k o : ℕ) (bytes : Text) (r : Bool) → referenceText (exprAt (moduleIn s0) e) ≡ some (textIn s0 o) → r ≡ equalb (textIn s0 o) bytes → r ≡ false
+    → Texted bytes s0 k s1 → referenceText (exprAt (moduleIn s1) e) ≡ none → ChangesReference e bytes s0 s1
 unfolding keptIn
-reference-stays s0 s1 e k o bytes first added gone =
+reference-stays s0 s1 e k o bytes r first compared differs added gone =
     record {
       says = λ reply old h. record {
         wrote = added-wrote;
-        does = λ sound room.
-            let same : moduleIn s1 ≡ moduleIn s0 = ap (λ (q : Kept). q .lowered) (added .kept sound) in
-            let there : referenceText (exprAt (moduleIn s1) e) ≡ some (textIn s0 o) = rw same first in
-            let z : _≡_ {A = ℕ} 0 1 = cc in
-            absurd (omega arith);
+        does = λ sound room. absurd (stays sound);
+        leaves = λ sound room. absurd (stays sound);
+        equal = λ q. absurd (reference-not s0 e bytes o reply first (rw (← compared, differs)) q);
       };
       other = λ h. let z : _≡_ {A = ℕ} 0 1 = cc in absurd (omega arith);
       wrote = added-wrote;
     }
   where
+    stays : sound s0 ≡ true → ⊥
+    stays h =
+        let same : moduleIn s1 ≡ moduleIn s0 = ap (λ (q : Kept). q .lowered) (added .kept h) in
+        let there : referenceText (exprAt (moduleIn s1) e) ≡ some (textIn s0 o) = rw same first in
+        let z : _≡_ {A = ℕ} 0 1 = cc in
+        omega arith
+
     added-wrote : Wrote changing s0 s1
     added-wrote = record { size = added .wrote .size; other = λ j out. added .wrote .other j (texts-inside .out j out) }
 

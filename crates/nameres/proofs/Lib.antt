@@ -5,3 +5,4 @@ pub mod StepLaws
 pub mod ResolveLaws
 pub mod ChangeLaws
 pub mod LoadLaws
+pub mod ConditionLaws

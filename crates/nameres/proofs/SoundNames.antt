@@ -1,4 +1,4 @@
--- In a sound store every entered name and every With is one that there is, so that a row can hold its number. Assumes nothing.
+-- Where scopes fit every entered name and every With is one that there is, so that a row can hold its number. Assumes nothing.
 use mathlib.Core.Path.{_≡_, refl}
 use mathlib.Core.Logic.{inr}
 use mathlib.Core.Bool.{Bool, true, false, _&&_, _||_}
@@ -10,17 +10,19 @@ use lib.Dec.{eqb, leb, ltb}
 use borrow.Author.Tests.{leb-true, ltb-true, ltb-false}
 use Rattle.words.specs.Words.{word}
 use Rattle.spec.proofs.Subtrees.{and-true}
-use Rattle.spec.proofs.Sums.{All, all-append, compared}
+use Rattle.spec.specs.Scopes.{ScopeKind, definitions, withExpr}
+use Rattle.spec.proofs.Sums.{All, all-append, all-map, compared}
 use Rattle.spec.specs.Answer.{scopeAt}
 use Rattle.spec.proofs.ScopeRange.{KindIn}
-use Rattle.layout.specs.Layout.{exprCount, nameCount, diagnosticCount, lostCount, scopeCount, spentPlace, textsPlace, exprLimit, nameLimit, diagnosticLimit, scopeLimit, roomLimit, scopesAt, enteredAt}
+use Rattle.layout.specs.Layout.{exprCount, nameCount, scopeCount, exprLimit, nameLimit, scopeLimit, scopesAt, enteredAt}
 use Rattle.layout.specs.Rows.{cap, rowsTo, rowsFrom, raised}
 use Rattle.layout.specs.Keeps.{firstEntered, enteredOf, kindOfScope, scopeIn, scopesIn}
 use Rattle.layout.proofs.RowLaws.{cap-less}
-use Rattle.soundness.specs.Sound.{allTo, ascends, nameFits, countsFit, entryFits, exprsFit, namesFit, diagnosticsFit, scopeFits, scopesFit, keptFits, sound}
+use Rattle.soundness.specs.Sound.{allTo, ascends, nameFits, scopeFits, scopesFit, sound}
+use Rattle.soundness.proofs.CodedLaws.{sound-module, sound-scopes}
 use Rattle.kept.proofs.ScopeReads.{scope-in, scope-out}
 use Rattle.kept.proofs.TextFrames.{all-at}
-use Rattle.nameres.specs.Resolution.{Nameable}
+use Rattle.nameres.specs.Resolution.{Nameable, Scoped}
 
 -- rows that say where their lists begin
 rises : (first : ℕ → ℕ) (n i : ℕ) → allTo (λ k. leb (first k) (first (k + 1))) n ≡ true → i ≤ n → first i ≤ first n
@@ -36,103 +38,64 @@ unfolding rowsTo
 all-rows P f zero h = tt
 all-rows P f (suc n) h = all-append P (rowsTo f n) (f n ∷ []) (all-rows P f n (λ k l. h k (omega arith))) (h n (omega arith), tt)
 
--- what the check of a store says of its counts and scopes
-counts-sound : (s : List ℕ) → sound s ≡ true → countsFit s ≡ true
-unfolding sound
-counts-sound s h = and-true (countsFit s) (entryFits s && (exprsFit s && (namesFit s && (diagnosticsFit s && (scopesFit s && keptFits s))))) h .0
+pub sound-scoped : (s : List ℕ) → sound s ≡ true → Scoped s
+sound-scoped s h = let m = sound-module s h in record { fits = sound-scopes s h; fewExprs = m .fewExprs; fewNames = m .fewNames }
 
-scopes-sound : (s : List ℕ) → sound s ≡ true → scopesFit s ≡ true
-unfolding sound
-scopes-sound s h =
-    let a = and-true (countsFit s) (entryFits s && (exprsFit s && (namesFit s && (diagnosticsFit s && (scopesFit s && keptFits s))))) h .1 in
-    let b = and-true (entryFits s) (exprsFit s && (namesFit s && (diagnosticsFit s && (scopesFit s && keptFits s)))) a .1 in
-    let c = and-true (exprsFit s) (namesFit s && (diagnosticsFit s && (scopesFit s && keptFits s))) b .1 in
-    let d = and-true (namesFit s) (diagnosticsFit s && (scopesFit s && keptFits s)) c .1 in
-    let e = and-true (diagnosticsFit s) (scopesFit s && keptFits s) d .1 in
-    and-true (scopesFit s) (keptFits s) e .0
+pub kind-wider : (n m e d : ℕ) (k : ScopeKind) → n ≤ m → e ≤ d → KindIn n e k → KindIn m d k
+kind-wider n m e d (definitions xs) l h a = all-map _ _ (λ x q. omega arith) xs a
+kind-wider n m e d (withExpr c) l h a = omega arith
 
-pub record Counted (s : List ℕ) : Type 0 where
-  pub exprs : word s exprCount ≤ exprLimit
-  pub names : word s nameCount ≤ nameLimit
-  pub spent : word s spentPlace ≤ roomLimit
-  pub texts : word s textsPlace ≤ 745472 + 5 * word s spentPlace
-
-pub counted : (s : List ℕ) → sound s ≡ true → Counted s
-unfolding countsFit
-counted s h =
-    let e = leb (word s exprCount) exprLimit in
-    let n = leb (word s nameCount) nameLimit in
-    let d = leb (word s diagnosticCount) diagnosticLimit in
-    let l = leb (word s lostCount) diagnosticLimit in
-    let c = leb (word s scopeCount) scopeLimit in
-    let r = leb (word s spentPlace) roomLimit in
-    let x = leb (word s textsPlace) (745472 + 5 * word s spentPlace) in
-    let h1 = and-true e (n && (d && (l && (c && (r && x))))) (counts-sound s h) in
-    let h2 = and-true n (d && (l && (c && (r && x)))) (h1 .1) in
-    let h3 = and-true d (l && (c && (r && x))) (h2 .1) .1 in
-    let h4 = and-true l (c && (r && x)) h3 .1 in
-    let h5 = and-true c (r && x) h4 .1 in
-    let h6 = and-true r x h5 in
-    record {
-      exprs = leb-true (word s exprCount) exprLimit (h1 .0);
-      names = leb-true (word s nameCount) nameLimit (h2 .0);
-      spent = leb-true (word s spentPlace) roomLimit (h6 .0);
-      texts = leb-true (word s textsPlace) (745472 + 5 * word s spentPlace) (h6 .1);
-    }
-
-module _ (s : List ℕ) (h : sound s ≡ true) where
+module _ (s : List ℕ) (h : Scoped s) where
   all-named : (j : ℕ) → j < firstEntered s (word s scopeCount) → word s (enteredAt + 4 * j) < word s nameCount
   unfolding scopesFit nameFits
   all-named j l =
-      let a = and-true (ascends (firstEntered s) (word s scopeCount) nameLimit) (allTo (scopeFits s) (word s scopeCount) && allTo (λ k. nameFits s (word s (enteredAt + 4 * k))) (firstEntered s (word s scopeCount))) (scopes-sound s h) .1 in
+      let a = and-true (ascends (firstEntered s) (word s scopeCount) nameLimit) (allTo (scopeFits s) (word s scopeCount) && allTo (λ k. nameFits s (word s (enteredAt + 4 * k))) (firstEntered s (word s scopeCount))) (h .fits .scopes) .1 in
       let b = and-true (allTo (scopeFits s) (word s scopeCount)) (allTo (λ k. nameFits s (word s (enteredAt + 4 * k))) (firstEntered s (word s scopeCount))) a .1 in
       ltb-true (word s (enteredAt + 4 * j)) (word s nameCount) (all-at (λ k. nameFits s (word s (enteredAt + 4 * k))) (firstEntered s (word s scopeCount)) j b l)
 
   firsts-rise : (i : ℕ) → i ≤ word s scopeCount → firstEntered s i ≤ firstEntered s (word s scopeCount)
   unfolding scopesFit ascends
   firsts-rise i l =
-      let a = and-true (ascends (firstEntered s) (word s scopeCount) nameLimit) (allTo (scopeFits s) (word s scopeCount) && allTo (λ k. nameFits s (word s (enteredAt + 4 * k))) (firstEntered s (word s scopeCount))) (scopes-sound s h) .0 in
+      let a = and-true (ascends (firstEntered s) (word s scopeCount) nameLimit) (allTo (scopeFits s) (word s scopeCount) && allTo (λ k. nameFits s (word s (enteredAt + 4 * k))) (firstEntered s (word s scopeCount))) (h .fits .scopes) .0 in
       let b = and-true (eqb (firstEntered s 0) 0) (allTo (λ k. leb (firstEntered s k) (firstEntered s (k + 1))) (word s scopeCount) && leb (firstEntered s (word s scopeCount)) nameLimit) a .1 in
       let c = and-true (allTo (λ k. leb (firstEntered s k) (firstEntered s (k + 1))) (word s scopeCount)) (leb (firstEntered s (word s scopeCount)) nameLimit) b .0 in
       rises (firstEntered s) (word s scopeCount) i c l
 
-  own-below : (i : ℕ) → i < cap (word s scopeCount) scopeLimit → All (λ x. x < nameLimit) (enteredOf s i)
+  own-below : (i : ℕ) → i < cap (word s scopeCount) scopeLimit → All (λ x. x < word s nameCount) (enteredOf s i)
   unfolding enteredOf rowsFrom
   own-below i l =
       let lo = cap (firstEntered s i) nameLimit in
       let hi = cap (firstEntered s (i + 1)) nameLimit in
-      let few = counted s h .names in
       let m = cap-less (word s scopeCount) scopeLimit (word s scopeCount) (inr (omega arith)) in
       let r = firsts-rise (i + 1) (omega arith) in
       let u = cap-less (firstEntered s (i + 1)) nameLimit (firstEntered s (i + 1)) (inr (omega arith)) in
-      all-rows (λ x. x < nameLimit) (λ k. word s (enteredAt + 4 * (lo + k))) (hi - lo) (λ k q. omega (arith, all-named (lo + k) (omega arith)))
+      all-rows (λ x. x < word s nameCount) (λ k. word s (enteredAt + 4 * (lo + k))) (hi - lo) (λ k q. omega (arith, all-named (lo + k) (omega arith)))
 
   -- a With is one of the expressions
   with-fits : (i : ℕ) → i < word s scopeCount → word s (scopesAt + 12 * i + 8) ≤ word s exprCount
   unfolding scopesFit scopeFits
   with-fits i l =
-      let a = and-true (ascends (firstEntered s) (word s scopeCount) nameLimit) (allTo (scopeFits s) (word s scopeCount) && allTo (λ k. nameFits s (word s (enteredAt + 4 * k))) (firstEntered s (word s scopeCount))) (scopes-sound s h) .1 in
+      let a = and-true (ascends (firstEntered s) (word s scopeCount) nameLimit) (allTo (scopeFits s) (word s scopeCount) && allTo (λ k. nameFits s (word s (enteredAt + 4 * k))) (firstEntered s (word s scopeCount))) (h .fits .scopes) .1 in
       let b = and-true (allTo (scopeFits s) (word s scopeCount)) (allTo (λ k. nameFits s (word s (enteredAt + 4 * k))) (firstEntered s (word s scopeCount))) a .0 in
       let c = and-true (leb (word s (scopesAt + 12 * i + 4)) i) (leb (word s (scopesAt + 12 * i + 8)) (word s exprCount)) (all-at (scopeFits s) (word s scopeCount) i b l) .1 in
       leb-true (word s (scopesAt + 12 * i + 8)) (word s exprCount) c
 
-  kind-of : (w : ℕ) (xs : List ℕ) → w ≤ exprLimit → All (λ x. x < nameLimit) xs → KindIn nameLimit exprLimit (kindOfScope (raised w) xs)
+  kind-of : (w : ℕ) (xs : List ℕ) → w ≤ word s exprCount → All (λ x. x < word s nameCount) xs → KindIn (word s nameCount) (word s exprCount) (kindOfScope (raised w) xs)
   unfolding kindOfScope raised
   kind-of zero xs l a = a
   kind-of (suc w) xs l a = omega arith
 
-  kind-at : (i : ℕ) → KindIn nameLimit exprLimit (scopeAt (scopesIn s .scopes) i .kind)
+  pub kind-at : (i : ℕ) → KindIn (word s nameCount) (word s exprCount) (scopeAt (scopesIn s .scopes) i .kind)
   unfolding scopeIn
   kind-at i = go (ltb i (cap (word s scopeCount) scopeLimit)) refl
     where
-      go : (b : Bool) → ltb i (cap (word s scopeCount) scopeLimit) ≡ b → KindIn nameLimit exprLimit (scopeAt (scopesIn s .scopes) i .kind)
+      go : (b : Bool) → ltb i (cap (word s scopeCount) scopeLimit) ≡ b → KindIn (word s nameCount) (word s exprCount) (scopeAt (scopesIn s .scopes) i .kind)
       go true q =
           let l = ltb-true i (cap (word s scopeCount) scopeLimit) q in
           let m = cap-less (word s scopeCount) scopeLimit (word s scopeCount) (inr (omega arith)) in
-          let few = counted s h .exprs in
           let fits = with-fits i (omega arith) in
           rw (scope-in s i l) (kind-of (word s (scopesAt + 12 * i + 8)) (enteredOf s i) (omega arith) (own-below i l))
       go false q = rw (scope-out s i (ltb-false i (cap (word s scopeCount) scopeLimit) q)) tt
 
-  pub sound-named : Nameable (scopesIn s)
-  sound-named = record { kinds = kind-at }
+  pub scoped-named : Nameable (scopesIn s)
+  scoped-named = record { kinds = λ i. kind-wider (word s nameCount) nameLimit (word s exprCount) exprLimit (scopeAt (scopesIn s .scopes) i .kind) (h .fewNames) (h .fewExprs) (kind-at i) }

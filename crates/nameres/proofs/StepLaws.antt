@@ -3,13 +3,13 @@ use mathlib.Core.Path.{_≡_, refl, sym, ap, _∙_}
 use mathlib.Core.Bool.{Bool, true, false, _||_}
 use mathlib.Core.List.{List, [], _∷_}
 use mathlib.Core.Option.{Option, none, some}
-use Prim.Native.Nat.{ℕ, suc, _+_, _≤_, _<_}
+use Prim.Native.Nat.{ℕ, suc, _+_, _*_, _≤_, _<_}
 use native.Mathlib.Numerals.{add-one}
 use native.Mathlib.Omega.{arith}
-use lib.Dec.{eqb}
+use lib.Dec.{eqb, ltb}
 use lib.ListN.{length, getD, set}
 use lib.Seq.{set-getD}
-use borrow.Author.Tests.{ne-eqb}
+use borrow.Author.Tests.{ne-eqb, ltb-true, ltb-false}
 use Rattle.words.specs.Equality.{equalb}
 use Rattle.words.specs.Order.{pick}
 use Rattle.spec.specs.Basics.{Text, ExprId, ScopeId}
@@ -19,7 +19,7 @@ use Rattle.spec.specs.Scopes.{Scopes, exprAt}
 use Rattle.spec.specs.Answer as spec
 use Rattle.spec.specs.Answer.{textOfName, answerAt, scopeOfExpr, referenceText, answerOf, answer}
 use Rattle.spec.specs.Kept.{Kept, tabulate, answersAfresh, keptAnswer, bears, resolvedAgain}
-use Rattle.layout.specs.Layout.{absent, exprCount, exprLimit}
+use Rattle.layout.specs.Layout.{absent, exprCount, nameCount, usesAt, exprLimit}
 use Rattle.layout.specs.Rows.{cap, rowsTo}
 use Rattle.layout.specs.Changes.{Wrote, Still}
 use Rattle.layout.specs.Regions.{answering}
@@ -27,18 +27,21 @@ use Rattle.layout.specs.Texts.{textIn, maybeText}
 use Rattle.layout.specs.Exprs.{madeIn}
 use Rattle.layout.specs.States.{exprsOf, stateOf, moduleIn}
 use Rattle.layout.specs.Keeps.{scopesIn, answerIn, keptIn}
-use Rattle.layout.proofs.RowLaws.{length-rows}
-use Rattle.layout.proofs.Frames.{wrote-none, wrote-then, text-still}
+use Rattle.layout.proofs.RowLaws.{length-rows, cap-le}
+use Rattle.layout.proofs.Frames.{same-on, number-kept, wrote-none, wrote-then, text-still}
 use Rattle.layout.proofs.WriteLaws.{still-then}
 use Rattle.words.specs.Words.{word}
 use Rattle.module.specs.declared.ids.MaybeText.{MaybeText}
 use Rattle.module.specs.declared.ids.MaybeText.the-variants as maybe-text
 use Rattle.kept.specs.declared.answers.Answer.{Answer}
 use Rattle.kept.specs.declared.answers.Answer.the-variants.{Unresolved}
-use Rattle.kept.specs.Answers.{answerWith, withsAt, answerNumber, insteadOf, answeredNow, keepAnswer, Answered}
+use Rattle.kept.specs.Answers.{answerWith, withsAt, answerNumber, insteadOf, answeredNow, keepAnswer, Answered, AnswerFits}
+use Rattle.spec.proofs.Sums.{compared}
+use Rattle.soundness.proofs.FrameLaws.{scopes-fit-kept}
 use Rattle.kept.proofs.UseLaws.{unanswered, answered}
-use Rattle.nameres.specs.Resolution.{Nameable, withAnswers, setTo, Answers, oneAfresh, oneAgain, firstAfresh, firstAgain}
-use Rattle.nameres.proofs.NumberLaws.{answer-held}
+use Rattle.kept.proofs.SoundChanges.{answered-wrote, answered-placed, answered-other}
+use Rattle.nameres.specs.Resolution.{Nameable, Scoped, withAnswers, setTo, Answers, oneAfresh, oneAgain, firstAfresh, firstAgain, AnswersOne, AnswersFirst, AnswersAll}
+use Rattle.nameres.proofs.NumberLaws.{answer-held, number-fits}
 use Rattle.nameres.proofs.AnswerLoops.{getD-setTo-past, setTo-all}
 
 scopes-kept : (s : List ℕ) → keptIn s .scopes ≡ scopesIn s
@@ -53,13 +56,87 @@ same-kept : (k : Kept) (as′ : List (Option spec.Answer)) → as′ ≡ k .answ
 unfolding withAnswers
 same-kept k as′ e = rw e
 
+-- ---- what fits
+-- the names are as many as they were
+names-as : {s t : List ℕ} → Wrote answering s t → word t nameCount ≡ word s nameCount
+names-as w = number-kept w 4 refl
+
+-- scopes fit while answers are written
+pub scoped-still : (as′ : Kept → List (Option spec.Answer)) (s t : List ℕ) → Answers as′ s t → Scoped s → Scoped t
+scoped-still as′ s t a h =
+    let exprs = number-kept (a .wrote) 0 refl in
+    let few = h .fewExprs in
+    record {
+      fits = scopes-fit-kept s t exprs (names-as (a .wrote)) (number-kept (a .wrote) 20 refl) (same-on 2441300 2506848 (a .wrote) refl) (λ e l. a .placed .scope e (omega arith)) (h .fits);
+      fewExprs = rw exprs (h .fewExprs);
+      fewNames = rw (names-as (a .wrote)) (h .fewNames);
+    }
+
+-- nothing is written
+pub answers-none : (as′ : Kept → List (Option spec.Answer)) (s : List ℕ) → as′ (keptIn s) ≡ keptIn s .answers → Answers as′ s s
+answers-none as′ s e =
+    record {
+      wrote = wrote-none answering s;
+      still = record { same = refl; used = refl };
+      placed = record { scope = λ i l. refl };
+      fits = λ _ i h. h;
+      does = λ _. sym (same-kept (keptIn s) (as′ (keptIn s)) e);
+    }
+
+-- the same answers, said otherwise
+answers-as : (as′ bs′ : Kept → List (Option spec.Answer)) (s t : List ℕ) → Answers as′ s t → as′ (keptIn s) ≡ bs′ (keptIn s) → Answers bs′ s t
+answers-as as′ bs′ s t a e =
+    record {
+      wrote = a .wrote;
+      still = a .still;
+      placed = a .placed;
+      fits = a .fits;
+      does = λ named. a .does named ∙ ap (λ (os : List (Option spec.Answer)). withAnswers os (keptIn s)) e;
+    }
+
+-- one answer whose number fits
+module _ (s t : List ℕ) (e : ExprId) (a : Answer) (put : Answered e a s t) (low : Scoped s → answerNumber a < 24 + word s nameCount) where
+  names-put : word t nameCount ≡ word s nameCount
+  names-put = names-as (answered-wrote e a s t put)
+
+  has-number : Scoped s → answerNumber a ≡ absent → ⊥
+  has-number h q = omega (arith, low h, h .fewNames)
+
+  put-fits : Scoped s → e < cap (word s exprCount) exprLimit → AnswerFits t e
+  unfolding AnswerFits
+  put-fits h l = rw (put .row l (has-number h), names-put) (low h)
+
+  pub put-fit : Scoped s → e < word s exprCount → AnswerFits t e
+  put-fit h l = put-fits h (rw (cap-le (word s exprCount) exprLimit (h .fewExprs)) l)
+
+  pub put-keeps : Scoped s → (i : ExprId) → AnswerFits s i → AnswerFits t i
+  unfolding AnswerFits
+  put-keeps h i f = compared i e (λ q. rw q (here (rw q at f))) (λ q. rw (answered-other e a s t put i q, names-put) f)
+    where
+      here : word s (usesAt + 8 * e + 4) < 24 + word s nameCount → word t (usesAt + 8 * e + 4) < 24 + word t nameCount
+      here g = go (ltb e (cap (word s exprCount) exprLimit)) refl
+        where
+          go : (b : Bool) → ltb e (cap (word s exprCount) exprLimit) ≡ b → word t (usesAt + 8 * e + 4) < 24 + word t nameCount
+          go true q = put-fits h (ltb-true e (cap (word s exprCount) exprLimit) q)
+          go false q = rw (put .past (ltb-false e (cap (word s exprCount) exprLimit) q)) g
+
 -- ---- one expression
 -- what is no Reference has no answer
-pub afresh-other : (s t : List ℕ) (e : ExprId) (r : MaybeText) → maybeText s r ≡ referenceText (exprAt (moduleIn s) e) → r ≡ maybe-text.Absent → Answered e Unresolved s t → Answers (oneAfresh e) s t
+pub afresh-other : (s t : List ℕ) (e : ExprId) (r : MaybeText) → maybeText s r ≡ referenceText (exprAt (moduleIn s) e) → r ≡ maybe-text.Absent → Answered e Unresolved s t → AnswersOne e s t
 unfolding oneAfresh answer answerOf maybeText keepAnswer answerNumber answeredNow insteadOf withAnswers
 afresh-other s t e r h q put =
     let n : referenceText (exprAt (moduleIn s) e) ≡ none = sym h ∙ ap (maybeText s) q in
-    record { wrote = put .wrote; still = put .still; does = λ _. put .does ∙ rw (unanswered s e n, module-kept s, n) }
+    let low : Scoped s → answerNumber Unresolved < 24 + word s nameCount = λ _. omega arith in
+    record {
+      answers = record {
+        wrote = answered-wrote e Unresolved s t put;
+        still = put .still;
+        placed = record { scope = λ i l. answered-placed e Unresolved s t put i };
+        fits = put-keeps s t e Unresolved put low;
+        does = λ _. put .does ∙ rw (unanswered s e n, module-kept s, n);
+      };
+      fit = put-fit s t e Unresolved put low;
+    }
 
 module _ (s t : List ℕ) (e k : ℕ) (r : MaybeText) (a : Answer)
     (h : maybeText s r ≡ referenceText (exprAt (moduleIn s) e)) (q : r ≡ maybe-text.Text (record { 0 = k }))
@@ -77,59 +154,71 @@ module _ (s t : List ℕ) (e k : ℕ) (r : MaybeText) (a : Answer)
   unfolding answeredNow keptIn
   now-kept = answered s e (textIn s k) (answerWith a (withsAt (scopesIn s) e)) has-text
 
+  its-number : Scoped s → answerNumber a < 24 + word s nameCount
+  its-number scoped = number-fits (textOfName (moduleIn s)) s (textIn s k) (scopeOfExpr (scopesIn s) e) a (withsAt (scopesIn s) e) scoped says
+
   -- a Reference has the answer that is worked out
-  pub afresh-reference : Answers (oneAfresh e) s t
+  pub afresh-reference : AnswersOne e s t
   unfolding oneAfresh keepAnswer withAnswers
   afresh-reference =
       record {
-        wrote = put .wrote;
-        still = put .still;
-        does = λ named.
-            put .does ∙ rw (ne-eqb (answerNumber a) absent (answer-held (textOfName (moduleIn s)) (scopesIn s) (textIn s k) (scopeOfExpr (scopesIn s) e) a (withsAt (scopesIn s) e) named says), now-kept, worked-out);
+        answers = record {
+          wrote = answered-wrote e a s t put;
+          still = put .still;
+          placed = record { scope = λ i l. answered-placed e a s t put i };
+          fits = put-keeps s t e a put its-number;
+          does = λ named.
+              put .does ∙ rw (ne-eqb (answerNumber a) absent (answer-held (textOfName (moduleIn s)) (scopesIn s) (textIn s k) (scopeOfExpr (scopesIn s) e) a (withsAt (scopesIn s) e) named says), now-kept, worked-out);
+        };
+        fit = put-fit s t e a put its-number;
       }
 
 -- ---- resolved again or not
-module _ (s t : List ℕ) (old new : Text) (e : ExprId) where
-  again-as : (f : Option spec.Answer) → resolvedAgain (keptIn s .lowered) (keptIn s .scopes) (keptAnswer (keptIn s)) old new e ≡ f → Answers (λ k. set (k .answers) e f) s t → Answers (oneAgain old new e) s t
-  unfolding oneAgain
-  again-as f h w = record { wrote = w .wrote; still = w .still; does = λ named. w .does named ∙ rw h }
-
 module _ (s : List ℕ) (old new : Text) (e : ExprId) where
   -- it bears neither text
   pub again-unborne : (bears old (referenceText (exprAt (moduleIn s) e)) || bears new (referenceText (exprAt (moduleIn s) e))) ≡ false → Answers (oneAgain old new e) s s
   unfolding oneAgain resolvedAgain keptAnswer
-  again-unborne h =
-      record {
-        wrote = wrote-none answering s;
-        still = record { same = refl };
-        does = λ _. sym (same-kept (keptIn s) _ (rw (module-kept s, h) (set-getD (keptIn s .answers) e none)));
-      }
+  again-unborne h = answers-none (oneAgain old new e) s (rw (module-kept s, h) (set-getD (keptIn s .answers) e none))
 
   -- it bears one of them
-  pub again-borne : (t : List ℕ) → (bears old (referenceText (exprAt (moduleIn s) e)) || bears new (referenceText (exprAt (moduleIn s) e))) ≡ true → Answers (oneAfresh e) s t → Answers (oneAgain old new e) s t
+  pub again-borne : (t : List ℕ) → (bears old (referenceText (exprAt (moduleIn s) e)) || bears new (referenceText (exprAt (moduleIn s) e))) ≡ true → AnswersOne e s t → Answers (oneAgain old new e) s t
   unfolding oneAgain oneAfresh resolvedAgain
-  again-borne t h w = record { wrote = w .wrote; still = w .still; does = λ named. w .does named ∙ rw (module-kept s, h) }
+  again-borne t h w = answers-as (oneAfresh e) (oneAgain old new e) s t (w .answers) (rw (module-kept s, h))
 
 -- ---- all expressions, one after the other
 named-still : (as′ : List (Option spec.Answer)) (s u : List ℕ) → keptIn u ≡ withAnswers as′ (keptIn s) → Nameable (scopesIn s) → Nameable (scopesIn u)
 unfolding withAnswers
 named-still as′ s u e h = rw (sym (scopes-kept u) ∙ ap (λ (k : Kept). k .scopes) e ∙ scopes-kept s) h
 
-pub afresh-none : (s : List ℕ) → Answers (firstAfresh 0) s s
+pub afresh-none : (s : List ℕ) → AnswersFirst 0 s s
 unfolding firstAfresh setTo
-afresh-none s = record { wrote = wrote-none answering s; still = record { same = refl }; does = λ _. sym (same-kept (keptIn s) (keptIn s .answers) refl) }
+afresh-none s = record { answers = answers-none (firstAfresh 0) s refl; fit = λ _ e l. absurd (omega arith) }
 
 pub again-none : (old new : Text) (s : List ℕ) → Answers (firstAgain old new 0) s s
 unfolding firstAgain setTo
-again-none old new s = record { wrote = wrote-none answering s; still = record { same = refl }; does = λ _. sym (same-kept (keptIn s) (keptIn s .answers) refl) }
+again-none old new s = answers-none (firstAgain old new 0) s refl
 
-pub afresh-more : (n : ℕ) (s u t : List ℕ) → Answers (firstAfresh n) s u → Answers (oneAfresh n) u t → Answers (firstAfresh (n + 1)) s t
+more-afresh : (n : ℕ) (s u t : List ℕ) → Answers (firstAfresh n) s u → Answers (oneAfresh n) u t → Answers (firstAfresh (n + 1)) s t
 unfolding firstAfresh oneAfresh setTo withAnswers
-afresh-more n s u t a b =
+more-afresh n s u t a b =
     record {
       wrote = wrote-then (a .wrote) (b .wrote);
       still = still-then (a .still) (b .still);
+      placed = record { scope = λ e l. b .placed .scope e l ∙ a .placed .scope e l };
+      fits = λ h e f. b .fits (scoped-still _ s u a h) e (a .fits h e f);
       does = λ named. b .does (named-still _ s u (a .does named) named) ∙ rw (a .does named, add-one);
+    }
+
+pub afresh-more : (n : ℕ) (s u t : List ℕ) → AnswersFirst n s u → AnswersOne n u t → AnswersFirst (n + 1) s t
+afresh-more n s u t a b =
+    record {
+      answers = more-afresh n s u t (a .answers) (b .answers);
+      fit = λ h e l k.
+          let scoped = scoped-still (firstAfresh n) s u (a .answers) h in
+          let c : word u exprCount ≡ word s exprCount = number-kept (a .answers .wrote) 0 refl in
+          compared e n
+          (λ q. rw q (b .fit scoped (rw (c, ← q) k)))
+          (λ q. b .answers .fits scoped e (a .fit h e (omega arith) k));
     }
 
 again-more : (old new : Text) (n : ℕ) (s u t : List ℕ) → Answers (firstAgain old new n) s u → Answers (oneAgain old new n) u t → Answers (firstAgain old new (n + 1)) s t
@@ -138,6 +227,8 @@ again-more old new n s u t a b =
     record {
       wrote = wrote-then (a .wrote) (b .wrote);
       still = still-then (a .still) (b .still);
+      placed = record { scope = λ e l. b .placed .scope e l ∙ a .placed .scope e l };
+      fits = λ h e f. b .fits (scoped-still _ s u a h) e (a .fits h e f);
       does = λ named.
           b .does (named-still _ s u (a .does named) named)
           ∙ rw (a .does named, add-one, getD-setTo-past (resolvedAgain (keptIn s .lowered) (keptIn s .scopes) (keptAnswer (keptIn s)) old new) none n (keptIn s .answers) n (omega arith));
@@ -162,27 +253,28 @@ exprs-many s = refl
 afresh-all : (n : ℕ) (s t : List ℕ) → n ≡ length (exprsOf s) → Answers (firstAfresh n) s t → Answers (λ k. answersAfresh (k .lowered) (k .scopes)) s t
 unfolding firstAfresh answersAfresh
 afresh-all n s t e a =
-    record {
-      wrote = a .wrote;
-      still = a .still;
-      does = λ named. a .does named ∙ ap (λ (as′ : List (Option spec.Answer)). withAnswers as′ (keptIn s))
-          (setTo-all (answer (keptIn s .lowered) (keptIn s .scopes)) none n (keptIn s .answers) (keptIn s .lowered .exprs) (answers-many s ∙ sym e) (exprs-many s ∙ sym e));
-    }
+    answers-as (firstAfresh n) (λ k. answersAfresh (k .lowered) (k .scopes)) s t a
+    (setTo-all (answer (keptIn s .lowered) (keptIn s .scopes)) none n (keptIn s .answers) (keptIn s .lowered .exprs) (answers-many s ∙ sym e) (exprs-many s ∙ sym e))
 
 again-all : (old new : Text) (n : ℕ) (s t : List ℕ) → n ≡ length (exprsOf s) → Answers (firstAgain old new n) s t
     → Answers (λ k. tabulate (resolvedAgain (k .lowered) (k .scopes) (keptAnswer k) old new) 0 (k .lowered .exprs)) s t
 unfolding firstAgain
 again-all old new n s t e a =
-    record {
-      wrote = a .wrote;
-      still = a .still;
-      does = λ named. a .does named ∙ ap (λ (as′ : List (Option spec.Answer)). withAnswers as′ (keptIn s))
-          (setTo-all (resolvedAgain (keptIn s .lowered) (keptIn s .scopes) (keptAnswer (keptIn s)) old new) none n (keptIn s .answers) (keptIn s .lowered .exprs) (answers-many s ∙ sym e) (exprs-many s ∙ sym e));
-    }
+    answers-as (firstAgain old new n) (λ k. tabulate (resolvedAgain (k .lowered) (k .scopes) (keptAnswer k) old new) 0 (k .lowered .exprs)) s t a
+    (setTo-all (resolvedAgain (keptIn s .lowered) (keptIn s .scopes) (keptAnswer (keptIn s)) old new) none n (keptIn s .answers) (keptIn s .lowered .exprs) (answers-many s ∙ sym e) (exprs-many s ∙ sym e))
+
+-- there are no more expressions than the count says
+exprs-used : (s : List ℕ) → Scoped s → length (exprsOf s) ≡ word s exprCount
+unfolding exprsOf
+exprs-used s h = length-rows (madeIn s) (cap (word s exprCount) exprLimit) ∙ cap-le (word s exprCount) exprLimit (h .fewExprs)
 
 -- at the end of the loop
-pub afresh-done : (e n : ℕ) (s t : List ℕ) → Answers (firstAfresh e) s t → e ≤ n → n ≤ e → n ≡ length (exprsOf s) → Answers (λ k. answersAfresh (k .lowered) (k .scopes)) s t
-afresh-done e n s t a l h c = afresh-all e s t (omega (arith, c)) a
+pub afresh-done : (e n : ℕ) (s t : List ℕ) → AnswersFirst e s t → e ≤ n → n ≤ e → n ≡ length (exprsOf s) → AnswersAll s t
+afresh-done e n s t a l h c =
+    record {
+      answers = afresh-all e s t (omega (arith, c)) (a .answers);
+      fit = λ scoped i k. a .fit scoped i (omega (arith, c, exprs-used s scoped)) k;
+    }
 
 pub again-done : (old new : Text) (e n : ℕ) (s t : List ℕ) → Answers (firstAgain old new e) s t → e ≤ n → n ≤ e → n ≡ length (exprsOf s)
     → Answers (λ k. tabulate (resolvedAgain (k .lowered) (k .scopes) (keptAnswer k) old new) 0 (k .lowered .exprs)) s t

@@ -27,10 +27,13 @@ pub record Spends (n : ℕ) (s t : List ℕ) : Type 0 where
 unfoldable pub changed : Kept → Call → Kept
 changed k c = keptWith k c (not (equalb (oldText (k .lowered) c) (newText c)))
 
--- The change is made, where the store is sound and its change room holds the text.
+-- The change is made, where the store is sound and its change room holds the text, and the store is sound then. An equal text leaves every byte as it is, in
+-- any store.
 pub record Changes (c : Call) (s t : List ℕ) : Type 0 where
   pub wrote : Wrote changing s t
   pub does : sound s ≡ true → keptIn s .spent + length (newText c) ≤ roomLimit → keptIn t ≡ changed (keptIn s) c
+  pub leaves : sound s ≡ true → keptIn s .spent + length (newText c) ≤ roomLimit → sound t ≡ true
+  pub equal : oldText (keptIn s .lowered) c ≡ newText c → t ≡ s
 
 -- of a name: whatever the length of the host's reply is
 pub record ChangesName (x : NameId) (bytes : Text) (s t : List ℕ) : Type 0 where

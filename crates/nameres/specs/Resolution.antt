@@ -1,23 +1,34 @@
 -- compute_name_resolution in a store: the kept answer of every Reference, and the step that a change of one text needs.
 use mathlib.Core.Path.{_≡_}
+use mathlib.Core.Bool.{true}
 use mathlib.Core.List.{List}
 use mathlib.Core.Option.{Option}
-use Prim.Native.Nat.{ℕ, zero, suc}
+use Prim.Native.Nat.{ℕ, zero, suc, _≤_, _<_}
 use lib.ListN.{set}
+use Rattle.words.specs.Words.{word}
 use Rattle.spec.specs.Basics.{Text, ExprId, NameId, ScopeId}
 use Rattle.spec.specs.Scopes.{Scopes}
 use Rattle.spec.specs.Answer.{Answer, answer, scopeAt}
 use Rattle.spec.specs.Kept.{Kept, answersAfresh, referencesAfresh, keptAnswer, resolvedAgain, changedTo}
 use Rattle.spec.proofs.ScopeRange.{KindIn}
-use Rattle.layout.specs.Layout.{exprLimit, nameLimit}
+use Rattle.layout.specs.Layout.{exprCount, nameCount, exprLimit, nameLimit}
 use Rattle.layout.specs.Changes.{Wrote, Still}
 use Rattle.layout.specs.Regions.{answering, resolving}
 use Rattle.layout.specs.States.{moduleIn}
 use Rattle.layout.specs.Keeps.{scopesIn, keptIn}
+use Rattle.soundness.specs.Sound.{keptFits}
+use Rattle.soundness.specs.Coded.{ScopesFit}
+use Rattle.kept.specs.Answers.{AnswerFits, Unmoved}
 
 -- What each scope holds has a number that a row can hold: so it is in what a load leaves, and in every sound store.
 pub record Nameable (w : Scopes) : Type 0 where
   pub kinds : (s : ScopeId) → KindIn nameLimit exprLimit (scopeAt (w .scopes) s .kind)
+
+-- The scopes of a store fit, and so do its counts of expressions and names.
+pub record Scoped (s : List ℕ) : Type 0 where
+  pub fits : ScopesFit s
+  pub fewExprs : word s exprCount ≤ exprLimit
+  pub fewNames : word s nameCount ≤ nameLimit
 
 unfoldable pub withAnswers : List (Option Answer) → Kept → Kept
 withAnswers as′ k = record { lowered = k .lowered; scopes = k .scopes; answers = as′; references = k .references; spent = k .spent }
@@ -27,10 +38,12 @@ unfoldable pub setTo : {A : Type 0} → (ℕ → A) → ℕ → List A → List 
 setTo f zero xs = xs
 setTo f (suc n) xs = set (setTo f n xs) n (f n)
 
--- The answers are as `as′` says of what was kept, and nothing else is another.
+-- The answers are as `as′` says of what was kept, and nothing else is another. What fitted as an answer, in whatever row, goes on to fit.
 pub record Answers (as′ : Kept → List (Option Answer)) (s t : List ℕ) : Type 0 where
   pub wrote : Wrote answering s t
   pub still : Still s t
+  pub placed : Unmoved s t
+  pub fits : Scoped s → (e : ExprId) → AnswerFits s e → AnswerFits t e
   pub does : Nameable (scopesIn s) → keptIn t ≡ withAnswers (as′ (keptIn s)) (keptIn s)
 
 -- the answer of the expression e worked out afresh, or again where it bears the old or the new text
@@ -47,11 +60,29 @@ firstAfresh n k = setTo (answer (k .lowered) (k .scopes)) n (k .answers)
 unfoldable pub firstAgain : Text → Text → ℕ → Kept → List (Option Answer)
 firstAgain old new n k = setTo (resolvedAgain (k .lowered) (k .scopes) (keptAnswer k) old new) n (k .answers)
 
+-- ---- worked out afresh, an answer fits whatever stood there
+-- of the expression e
+pub record AnswersOne (e : ExprId) (s t : List ℕ) : Type 0 where
+  pub answers : Answers (oneAfresh e) s t
+  pub fit : Scoped s → e < word s exprCount → AnswerFits t e
+
+-- of the first n expressions
+pub record AnswersFirst (n : ℕ) (s t : List ℕ) : Type 0 where
+  pub answers : Answers (firstAfresh n) s t
+  pub fit : Scoped s → (e : ExprId) → e < n → e < word s exprCount → AnswerFits t e
+
+-- of all of them
+pub record AnswersAll (s t : List ℕ) : Type 0 where
+  pub answers : Answers (λ k. answersAfresh (k .lowered) (k .scopes)) s t
+  pub fit : Scoped s → (e : ExprId) → e < word s exprCount → AnswerFits t e
+
 -- ---- with the kept references, which are listed anew
--- All is kept as it is worked out afresh.
+-- All is kept as it is worked out afresh, and it fits whatever stood there.
 pub record Resolved (s t : List ℕ) : Type 0 where
   pub wrote : Wrote resolving s t
   pub still : Still s t
+  pub placed : Unmoved s t
+  pub fits : Scoped s → keptFits t ≡ true
   pub does : Nameable (scopesIn s) → keptIn t ≡ (record {
     lowered = keptIn s .lowered;
     scopes = keptIn s .scopes;
@@ -60,8 +91,10 @@ pub record Resolved (s t : List ℕ) : Type 0 where
     spent = keptIn s .spent;
   })
 
--- The References that bear the old or the new text are resolved again, and the kept lists are up to date.
+-- The References that bear the old or the new text are resolved again, and the kept lists are up to date. All fits where every answer fitted.
 pub record ResolvedAgain (old new : Text) (s t : List ℕ) : Type 0 where
   pub wrote : Wrote resolving s t
   pub still : Still s t
+  pub placed : Unmoved s t
+  pub fits : Scoped s → ((e : ExprId) → e < word s exprCount → AnswerFits s e) → keptFits t ≡ true
   pub does : Nameable (scopesIn s) → keptIn t ≡ changedTo (keptIn s) (keptIn s .lowered) old new (keptIn s .spent)

@@ -6,11 +6,11 @@ ghost use mathlib.Core.Path.{_≡_};
 ghost use mathlib.Core.Bool.{_||_};
 ghost use Rattle.spec.specs.Scopes.{exprAt};
 ghost use Rattle.spec.specs.Answer.{referenceText};
-ghost use Rattle.spec.specs.Kept.{tabulate, answersAfresh, keptAnswer, resolvedAgain, bears};
+ghost use Rattle.spec.specs.Kept.{tabulate, keptAnswer, resolvedAgain, bears};
 ghost use Rattle.layout.specs.Layout.{Long};
 ghost use Rattle.layout.specs.Texts.{textIn};
 ghost use Rattle.layout.specs.States.{moduleIn};
-ghost use Rattle.nameres.specs.Resolution.{Answers, oneAfresh, oneAgain, Resolved, ResolvedAgain};
+ghost use Rattle.nameres.specs.Resolution.{Answers, oneAgain, AnswersOne, AnswersAll, Resolved, ResolvedAgain};
 use intake::texts_equal;
 use kept::Answer;
 use kept::reference_text;
@@ -25,7 +25,7 @@ use store::expr_count;
 // The answer of one expression. What is no Reference has none, and its row says so.
 fn answer_afresh(store: &mut [u8], e: ExprId)
     requires { ⌜ Long (now store) ⌝ }
-    ensures { λ _. ⌜ Answers (oneAfresh (e .0)) (now (store .entry)) (now (store .exit)) ⌝ }
+    ensures { λ _. ⌜ AnswersOne (e .0) (now (store .entry)) (now (store .exit)) ⌝ }
 {
     match reference_text(store, e) {
         MaybeText::Text(t) => {
@@ -41,7 +41,7 @@ fn answer_afresh(store: &mut [u8], e: ExprId)
 // The answers of all expressions.
 fn answer_all(store: &mut [u8])
     requires { ⌜ Long (now store) ⌝ }
-    ensures { λ _. ⌜ Answers (λ k. answersAfresh (k .lowered) (k .scopes)) (now (store .entry)) (now (store .exit)) ⌝ }
+    ensures { λ _. ⌜ AnswersAll (now (store .entry)) (now (store .exit)) ⌝ }
 {
     let n = expr_count(store);
     let mut e: u32 = 0;

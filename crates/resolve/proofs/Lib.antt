@@ -7,3 +7,4 @@ pub mod NameLaws
 pub mod CountLaws
 pub mod ListingLaws
 pub mod NumberLaws
+pub mod ReferenceLaws

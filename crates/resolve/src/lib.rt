@@ -7,6 +7,7 @@ mod definitions;
 mod listing;
 mod names;
 mod numbers;
+mod references;
 mod search;
 mod withs;
 
@@ -15,6 +16,7 @@ pub use listing::list_withs;
 pub use names::resolve_name;
 pub use numbers::answer_number;
 pub use numbers::answer_value;
+pub use references::list_kept_references;
 pub use search::Found;
 pub use search::innermost;
 pub use withs::has_with;

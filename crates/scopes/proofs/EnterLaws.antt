@@ -25,7 +25,7 @@ use Rattle.scopes.proofs.ItemLaws.{items-walked, entered-more, entered-
 pub enters-none : (n : ℕ) (s : List ℕ) → Enters n [] s n s
 enters-none n s = record {
   wrote = wrote-none walking s;
-  still = record { same = refl };
+  still = record { same = refl; used = refl };
   same = λ neat. (refl, neat);
   used = refl;
   counted = omega arith;

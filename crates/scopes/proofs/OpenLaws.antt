@@ -20,6 +20,7 @@ use Rattle.layout.proofs.RowLaws.{length-rows}
 use Rattle.layout.proofs.Frames.{wrote-none, wrote-then}
 use Rattle.layout.proofs.WriteLaws.{still-then}
 use Rattle.kept.specs.Walks.{namesEntered, enteredBy, kindFits, tryOpen, tryPlace, walking, usedNames, waitingNames, Walked}
+use Rattle.kept.proofs.NeatLaws.{neat-all}
 use Rattle.scopes.specs.Walking.{Fits, Walks}
 use Rattle.scopes.specs.Entering.{Enters, tryFor}
 use Rattle.scopes.proofs.Growth.{entered-append}
@@ -86,7 +87,7 @@ length-waiting s n = length-rows (λ k. word s (enteredAt + 4 * (usedNames s + k
 
 pub for-none : (n : ℕ) (scope : ScopeId) (s : List ℕ) → n ≡ 0 → Walked (tryFor (waitingNames s n) scope) s scope s
 unfolding tryFor give
-for-none n scope s e = rw (e, none-waiting s) (record { wrote = wrote-none walking s; still = record { same = refl }; does = λ neat. (refl, neat) })
+for-none n scope s e = rw (e, none-waiting s) (record { wrote = wrote-none walking s; still = record { same = refl; used = refl }; does = λ neat. (refl, neat) })
 
 pub for-opened : (n : ℕ) (scope : ScopeId) {s t : List ℕ} {r : ScopeId} → (n ≡ 0 → ⊥) → Walked (tryOpen (definitions (waitingNames s n)) scope) s r t → Walked (tryFor (waitingNames s n) scope) s r t
 for-opened n scope {s} {t} {r} h x =
@@ -108,7 +109,7 @@ opened-for xs p {scope} {s} {u} {t} {n} {r} e x y = record {
       let fits′ : Fits (openFor xs scope w .1) = subst (λ (q : Walk ScopeId). Fits (q w .1)) e fits in
       let same = x .same (ready .neat) in
       let f = y .does (same .1) in
-      let waits : waitingNames u n ≡ xs = x .waits (omega (arith, x .counted, ready .neat .all, for-room xs scope w fits′)) ∙ ap (λ (zs : List NameId). zs ++ xs) (none-waiting s) in
+      let waits : waitingNames u n ≡ xs = x .waits (omega (arith, x .counted, neat-all s (ready .neat), for-room xs scope w fits′)) ∙ ap (λ (zs : List NameId). zs ++ xs) (none-waiting s) in
       let is : tryFor (waitingNames u n) scope (scopesIn u) ≡ tryFor xs scope w = rw (waits, same .0) in
       (f .0 ∙ (is ∙ (for-fits xs scope w (ready .known) fits′ ∙ ap (λ (q : Walk ScopeId). q w) (sym e))), f .1);
 }

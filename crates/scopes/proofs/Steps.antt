@@ -75,7 +75,7 @@ walks-as e x = walks-ordered (λ _. e) x
 -- nothing is done
 pub walks-none : {A : Type 0} {scope : ScopeId} (a : A) (s : List ℕ) → Walks scope (λ m. give a) s a s
 unfolding give
-walks-none a s = record { wrote = wrote-none walking s; still = record { same = refl }; does = λ ready fits. (refl, ready .neat) }
+walks-none a s = record { wrote = wrote-none walking s; still = record { same = refl; used = refl }; does = λ ready fits. (refl, ready .neat) }
 
 -- ---- children one after the other
 each-append : {A : Type 0} (f : A → Walk (Unit {0})) (xs ys : List A) (w : Scopes) → (eachOf f xs >>= λ _. eachOf f ys) w ≡ eachOf f (xs ++ ys) w

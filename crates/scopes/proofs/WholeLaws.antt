@@ -7,27 +7,34 @@ use native.Mathlib.Omega.{arith}
 use lib.ListN.{length, replicate}
 use Rattle.words.specs.Words.{word}
 use Rattle.spec.specs.Basics.{ExprId}
-use Rattle.spec.specs.Sheet.{accepted}
+use Rattle.spec.specs.Sheet.{Node, accepted}
 use Rattle.spec.specs.Tree.{judge}
 use Rattle.spec.specs.Module.{Module}
 use Rattle.spec.specs.Lower.{lowerModule, moduleOf}
+use Rattle.spec.specs.Kept.{keptOf, loaded}
 use Rattle.spec.specs.Scopes.{ScopeKind, definitions, withExpr, Scope, Scopes, traverseExpr, scopesOf}
 use Rattle.spec.proofs.Ordered.{Ordered, lowered-ordered}
+use Rattle.spec.proofs.ScopeRange.{InRange}
+use Rattle.spec.proofs.Sound.{lowered-sound}
 use Rattle.spec.proofs.SheetRoom.{sheet-room}
 use Rattle.spec.proofs.NameRoom.{enteredIn, namesEntered, entered-room}
-use Rattle.layout.specs.Layout.{nameCount, spentPlace, nameLimit}
+use Rattle.layout.specs.Layout.{exprCount, nameCount, spentPlace, exprLimit, nameLimit}
 use Rattle.layout.specs.Rows.{cap}
 use Rattle.layout.specs.Nodes.{nodesOf}
-use Rattle.layout.specs.States.{nameIn, namesOf, stateOf, moduleIn}
+use Rattle.layout.specs.Changes.{Wrote}
+use Rattle.layout.specs.Exprs.{madeIn}
+use Rattle.layout.specs.States.{exprsOf, nameIn, namesOf, stateOf, moduleIn}
 use Rattle.layout.specs.Keeps.{scopesIn, keptIn}
-use Rattle.layout.proofs.RowLaws.{length-rows, cap-lim}
+use Rattle.layout.proofs.RowLaws.{length-rows, cap-le}
 use Rattle.layout.proofs.Frames.{wrote-then, number-kept}
 use Rattle.layout.proofs.WriteLaws.{still-then}
+use Rattle.soundness.specs.Coded.{ScopesFit}
 use Rattle.kept.specs.Walks as kept
 use Rattle.kept.specs.Walks.{enteredBy, walking, root, tryRoot, Neat, Walked, Emptied}
 use Rattle.kept.proofs.KeepFrames.{references-kept}
+use Rattle.kept.proofs.ScopesFitLaws.{neat-fits}
 use Rattle.scopes.specs.Walking.{Fits, Ready, Walks}
-use Rattle.scopes.specs.Whole.{ScopesAll}
+use Rattle.scopes.specs.Whole.{Walkable, ScopesAll}
 use Rattle.scopes.proofs.Steps.{module-walked}
 
 -- ---- room
@@ -40,21 +47,27 @@ names-counted (s ∷ ss) = omega (arith, one (s .kind), names-counted ss)
     one (definitions xs) = refl
     one (withExpr e) = refl
 
-few-names : (s : List ℕ) → length (moduleIn s .names) ≤ nameLimit
+-- THEOREM. The module of an accepted sheet can be walked.
+pub accepted-walkable : (sheet : List ℕ) (nodes : List Node) → judge sheet ≡ accepted nodes → Walkable (lowerModule nodes)
+accepted-walkable sheet nodes judged =
+    let room = sheet-room sheet nodes judged in
+    record {
+      ordered = lowered-ordered nodes .0;
+      room =
+          record {
+            few-scopes = omega (arith, room .scopes-few, room .few);
+            few-names = omega (arith, names-counted (scopesOf (lowerModule nodes) .scopes), entered-room nodes, room .fits .names-few, room .few);
+          };
+    }
+
+-- ---- a module whose counts are within their limits
+names-in : (s : List ℕ) → word s nameCount ≤ nameLimit → length (moduleIn s .names) ≡ word s nameCount
 unfolding moduleIn moduleOf stateOf namesOf
-few-names s = omega (arith, length-rows (nameIn s) (cap (word s nameCount) nameLimit), cap-lim (word s nameCount) nameLimit)
+names-in s few = length-rows (nameIn s) (cap (word s nameCount) nameLimit) ∙ cap-le (word s nameCount) nameLimit few
 
-module _ (s : List ℕ) (sheet : List ℕ) (judged : judge sheet ≡ accepted (nodesOf s)) (lowered : moduleIn s ≡ lowerModule (nodesOf s)) where
-  scopes-fit : Fits (scopesOf (moduleIn s))
-  scopes-fit =
-      let room = sheet-room sheet (nodesOf s) judged in
-      record {
-        few-scopes = rw lowered (omega (arith, room .scopes-few, room .few));
-        few-names = omega (arith, names-counted (scopesOf (moduleIn s) .scopes), few-names s, rw (← lowered) at (entered-room (nodesOf s)));
-      }
-
-  module-ordered : Ordered (moduleIn s .exprs)
-  module-ordered = rw lowered (lowered-ordered (nodesOf s) .0)
+exprs-in : (s : List ℕ) → word s exprCount ≤ exprLimit → length (moduleIn s .exprs) ≡ word s exprCount
+unfolding moduleIn moduleOf stateOf exprsOf
+exprs-in s few = length-rows (madeIn s) (cap (word s exprCount) exprLimit) ∙ cap-le (word s exprCount) exprLimit few
 
 -- ---- from an empty table of scopes
 -- what a walk of the module begins with
@@ -75,28 +88,54 @@ module _ {s a b t : List ℕ} {e : ExprId} (x : Emptied s a) (y : Walked tryRoot
   walk-is : traverseExpr (moduleIn b) 0 e (scopesIn b) ≡ traverseExpr (moduleIn s) 0 (moduleIn s .entry) (atFirst (moduleIn s))
   walk-is = rw (q, before, root-opened x y .0)
 
-  whole-does : (sheet : List ℕ) → judge sheet ≡ accepted (nodesOf s) → moduleIn s ≡ lowerModule (nodesOf s) → (scopesIn t ≡ scopesOf (moduleIn s)) × Neat t
+  whole-does : Walkable (moduleIn s) → (scopesIn t ≡ scopesOf (moduleIn s)) × Neat t
   unfolding scopesOf atFirst
-  whole-does sheet judged lowered =
+  whole-does can =
       let ready : Ready 0 b = record {
         known = omega arith;
-        ordered = subst (λ (m : Module). Ordered (m .exprs)) (sym before) (module-ordered s sheet judged lowered);
+        ordered = subst (λ (m : Module). Ordered (m .exprs)) (sym before) (can .ordered);
         neat = root-opened x y .1;
       } in
-      let fits = subst (λ (v : Unit {0} × Scopes). Fits (v .1)) (sym walk-is) (scopes-fit s sheet judged lowered) in
+      let fits = subst (λ (v : Unit {0} × Scopes). Fits (v .1)) (sym walk-is) (can .room) in
       let f = z .does ready fits in
       (ap (λ (v : Unit {0} × Scopes). v .1) (f .0 ∙ walk-is), f .1)
+
+  all-wrote : Wrote walking s t
+  all-wrote = wrote-then (wrote-then (x .wrote) (y .wrote)) (z .wrote)
+
+  whole-fits : Walkable (moduleIn s) → InRange (length (moduleIn s .names)) (length (moduleIn s .exprs)) (scopesOf (moduleIn s))
+      → word s exprCount ≤ exprLimit → word s nameCount ≤ nameLimit → ScopesFit t
+  unfolding walking
+  whole-fits can range few-exprs few-names =
+      let f = whole-does can in
+      let names : length (moduleIn s .names) ≡ word t nameCount = names-in s few-names ∙ sym (number-kept all-wrote nameCount refl) in
+      let exprs : length (moduleIn s .exprs) ≡ word t exprCount = exprs-in s few-exprs ∙ sym (number-kept all-wrote exprCount refl) in
+      neat-fits t (f .1) (rw (f .0, ← names, ← exprs) range)
 
   pub scopes-computed : ScopesAll s t
   unfolding walking keptIn
   scopes-computed =
-      let wrote = wrote-then (wrote-then (x .wrote) (y .wrote)) (z .wrote) in
       let still = still-then (still-then (x .still) (y .still)) (z .still) in
       record {
-        wrote = wrote;
+        wrote = all-wrote;
         still = still;
-        module-same = module-walked wrote still;
-        references-same = references-kept wrote refl refl;
-        spent-same = number-kept wrote spentPlace refl;
+        module-same = module-walked all-wrote still;
+        references-same = references-kept all-wrote refl refl;
+        spent-same = number-kept all-wrote spentPlace refl;
         does = whole-does;
+        fits = whole-fits;
       }
+
+-- ---- an accepted sheet
+module _ {s t : List ℕ} (computed : ScopesAll s t) (sheet : List ℕ) (judged : judge sheet ≡ accepted (nodesOf s)) (lowered : moduleIn s ≡ lowerModule (nodesOf s)) where
+  module-walkable : Walkable (moduleIn s)
+  module-walkable = rw lowered (accepted-walkable sheet (nodesOf s) judged)
+
+  -- THEOREM. Its scopes are those of the definitions.
+  pub accepted-scopes : (scopesIn t ≡ scopesOf (moduleIn s)) × Neat t
+  accepted-scopes = computed .does module-walkable
+
+  -- THEOREM. Their bytes pass the check of a store.
+  pub accepted-fits : word s exprCount ≤ exprLimit → word s nameCount ≤ nameLimit → ScopesFit t
+  unfolding loaded keptOf
+  accepted-fits few-exprs few-names = computed .fits module-walkable (rw lowered (lowered-sound (nodesOf s) .scopes)) few-exprs few-names

@@ -45,7 +45,7 @@ same-length-3 : tie.Need-same-length-3
 same-length-3 c = search needs
 
 returns-3 : tie.Need-returns-3
-returns-3 c = reference-stays _ _ _ _ _ _ (text-read _ _ _ _ (c .before .before .before .before .before .before .before .before .before .before .before .before .before .before .reference-text .ensures) (c .before .before .before .before .before .before .before .before .before .before .before .before .held .given .1)) (c .before .before .before .before .before .before .add-text .ensures) (text-lost _ _ _ (c .before .before .reference-text2 .ensures) (c .enum-told2 .given .1))
+returns-3 c = reference-stays _ _ _ _ _ _ _ (text-read _ _ _ _ (c .before .before .before .before .before .before .before .before .before .before .before .before .before .before .reference-text .ensures) (c .before .before .before .before .before .before .before .before .before .before .before .before .held .given .1)) (c .before .before .before .before .before .before .before .before .before .text-is .ensures) (c .before .before .before .before .before .before .before .before .if1 .left) (c .before .before .before .before .before .before .add-text .ensures) (text-lost _ _ _ (c .before .before .reference-text2 .ensures) (c .enum-told2 .given .1))
 
 set-reference-text-requires : tie.Need-set-reference-text-requires
 set-reference-text-requires c κs = search needs

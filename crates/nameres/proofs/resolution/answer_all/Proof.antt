@@ -2,12 +2,12 @@
 use Prim.Native.Nat.{_-_, _≤_}
 use native.Mathlib.Omega.{arith}
 use Rattle.nameres.proofs.StepLaws.{afresh-none, afresh-more, afresh-done}
-use Rattle.nameres.specs.Resolution.{Answers, firstAfresh}
+use Rattle.nameres.specs.Resolution.{AnswersFirst}
 use Rattle.nameres.proofs.resolution.answer_all.Statement.{statement}
 use Rattle.nameres.proofs.resolution.answer_all.Tie as tie
 
 abbrev Inv-loop : tie.InvT-loop
-Inv-loop store₀ n e₀ store e = Answers (firstAfresh e) store₀ store × (e ≤ n)
+Inv-loop store₀ n e₀ store e = AnswersFirst e store₀ store × (e ≤ n)
 
 abbrev μ-loop : tie.MeasureT-loop
 μ-loop store₀ n e₀ store e = n - e
@@ -19,7 +19,7 @@ loop-holds : tie.Need-loop-holds Inv-loop μ-loop
 loop-holds c = (afresh-none _, omega arith)
 
 answer-afresh-requires : tie.Need-answer-afresh-requires Inv-loop μ-loop
-answer-afresh-requires c κs = omega (arith, c .before .before .before .before .before .before .pre, c .before .before .loop .inv .0 .wrote .size)
+answer-afresh-requires c κs = omega (arith, c .before .before .before .before .before .before .pre, c .before .before .loop .inv .0 .answers .wrote .size)
 
 add-e : tie.Need-add-e Inv-loop μ-loop
 add-e c = omega arith
@@ -31,7 +31,7 @@ loop-again : tie.Need-loop-again Inv-loop μ-loop
 loop-again c = (afresh-more _ _ _ _ (c .before .before .before .before .before .loop .inv .0) (c .before .before .answer-afresh .ensures), omega arith)
 
 same-length : tie.Need-same-length Inv-loop μ-loop
-same-length c = c .before .loop .inv .0 .wrote .size
+same-length c = c .before .loop .inv .0 .answers .wrote .size
 
 returns : tie.Need-returns Inv-loop μ-loop
 returns c = afresh-done _ _ _ _ (c .before .loop .inv .0) (c .before .loop .inv .1) (c .loop-test .left) (c .before .before .expr-count .ensures .0)

@@ -9,7 +9,7 @@ answer-all-requires : tie.Need-answer-all-requires
 answer-all-requires c κs = search needs
 
 list-references-requires : tie.Need-list-references-requires
-list-references-requires c κs = omega (arith, c .before .before .before .before .before .before .pre, c .before .before .before .answer-all .ensures .wrote .size)
+list-references-requires c κs = omega (arith, c .before .before .before .before .before .before .pre, c .before .before .before .answer-all .ensures .answers .wrote .size)
 
 same-length : tie.Need-same-length
 same-length c = search needs

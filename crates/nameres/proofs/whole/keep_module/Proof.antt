@@ -18,7 +18,7 @@ same-length : tie.Need-same-length
 same-length c = search needs
 
 returns : tie.Need-returns
-returns c = keeps-all _ _ _ _ (c .before .before .before .before .before .before .before .before .before .before .compute-scopes .ensures .wrote) (c .before .before .before .before .before .before .before .before .before .before .compute-scopes .ensures .still) (λ sheet a l. c .before .before .before .before .before .before .before .before .before .before .compute-scopes .ensures .does sheet a l .0) (c .before .before .before .before .before .before .compute-name-resolution .ensures) (c .before .before .set-spent .ensures)
+returns c = keeps-all _ _ _ _ (c .before .before .before .before .before .before .before .before .before .before .compute-scopes .ensures) (c .before .before .before .before .before .before .compute-name-resolution .ensures) (c .before .before .set-spent .ensures)
 
 pub keep-module-spec : {M : Type 1} → statement M
 keep-module-spec =
