@@ -107,16 +107,16 @@ module _ (s : List ℕ) (count i : ℕ) (f : Front) (t : List ℕ) (b : Bringing
   one : count - i ≡ suc (count - (i + 1))
   one = omega arith
 
-  nodes-bad : (w : spec.Fault) (at : ℕ) → node count i s (f .at) ≡ bad w at → nodeList s 0 ≡ bad w at
+  nodes-bad : (w : spec.Fault) (at : ℕ) → node count i s (f .next .at) ≡ bad w at → nodeList s 0 ≡ bad w at
   unfolding nodesFrom _>>=_ next
   nodes-bad w at e = b .same ∙ rw (one, e)
 
-  nodes-more : (x : Node) (at : ℕ) → node count i s (f .at) ≡ got x at
+  nodes-more : (x : Node) (at : ℕ) → node count i s (f .next .at) ≡ got x at
       → nodeList s 0 ≡ ahead (rowsTo (nodeIn t) i ++ (x ∷ [])) (nodesFrom (count - (i + 1)) count (i + 1) s at)
   unfolding nodesFrom _>>=_ next give
   nodes-more x at e = b .same ∙ rw (one, e) (ahead-one (rowsTo (nodeIn t) i) x s (nodesFrom (count - (i + 1)) count (i + 1) s at))
 
-  module _ (r : NodeRead) (e : (gotNode s r ≡ node count i s (f .at)) × FormedNode s count r) where
+  module _ (r : NodeRead) (e : (gotNode s r ≡ node count i s (f .next .at)) × FormedNode s count r) where
     pub node-bad : (why : Fault) (at : ℕ) → r ≡ read.Bad why at → Stopped s t t
     node-bad why at q =
         record { refuses = bad-refuses s (faultOf why) at (nodes-bad (faultOf why) at (sym (e .0) ∙ ap (gotNode s) q)); wrote = within-none t nodesAt storeBytes }
@@ -125,14 +125,14 @@ module _ (s : List ℕ) (count i : ℕ) (f : Front) (t : List ℕ) (b : Bringing
       formed : FormedSpans s count n
       formed = subst (FormedNode s count) q (e .1)
 
-      got-it : node count i s (f .at) ≡ got (nodeOf s n) (n .next .at)
+      got-it : node count i s (f .next .at) ≡ got (nodeOf s n) (n .next .at)
       got-it = sym (e .0) ∙ ap (gotNode s) q
 
       inside : n .next .at ≤ length s
       inside = omega (arith, formed .next, formed .text .within)
 
-      apart : f .at + 34 + 2 * length (nodeOf s n .text) ≤ n .next .at
-      apart = node-long count i s (f .at) (nodeOf s n) (n .next .at) got-it
+      apart : f .next .at + 34 + 2 * length (nodeOf s n .text) ≤ n .next .at
+      apart = node-long count i s (f .next .at) (nodeOf s n) (n .next .at) got-it
 
       pub its-spans : count ≤ nodeLimit → Spans s n
       unfolding kidsIn
@@ -195,9 +195,9 @@ module _ (s : List ℕ) (count i : ℕ) (f : Front) (t : List ℕ) (b : Bringing
       node-brought u step.Full h = node-over u h
 
 -- ---- the first line
-module _ (s : List ℕ) (r : NumberRead) (e : gotNumber r ≡ numberOf (bytes "nodes=") wrongCount 1 4096 s 0) where
+module _ (s : List ℕ) (start : Position) (z : start .at ≡ 0) (r : NumberRead) (e : gotNumber r ≡ numberOf (bytes "nodes=") wrongCount 1 4096 s (start .at)) where
   here : spec.number "nodes=" wrongCount 1 4096 s 0 ≡ gotNumber r
-  here = number-by "nodes=" wrongCount 1 4096 s 0 (gotNumber r) e
+  here = number-by "nodes=" wrongCount 1 4096 s 0 (gotNumber r) (rw z at e)
 
   pub count-bad : (why : Fault) (at : ℕ) → r ≡ number.Bad why at → (t : List ℕ) → Brought s t t false
   unfolding nodeList _>>=_ next
@@ -213,7 +213,7 @@ module _ (s : List ℕ) (r : NumberRead) (e : gotNumber r ≡ numberOf (bytes "n
   counted count first q =
       record {
         few = number-within "nodes=" wrongCount 1 4096 s 0 count (first .at) (here ∙ ap gotNumber q) .1;
-        inside = number-inside (bytes "nodes=") wrongCount 1 4096 s 0 r e count first q;
+        inside = number-inside (bytes "nodes=") wrongCount 1 4096 s (start .at) r e count first q;
         same = rw (here, q);
       }
 
@@ -222,16 +222,16 @@ ahead-none : (g : Got (List Node)) → ahead [] g ≡ g
 ahead-none (got ms at) = refl
 ahead-none (bad w at) = refl
 
-pub bringing-start : (s : List ℕ) (count at : ℕ) → Counted s count at → (t t₀ t₁ : List ℕ) → Long t → t₀ ≡ setWord t textsPlace sheetTexts → t₁ ≡ setWord t₀ nodesAt 0
-    → Bringing s count 0 (record { at = at; kids = 0; texts = 0 }) t₁
+pub bringing-start : (s : List ℕ) (count : ℕ) (first : Position) → Counted s count (first .at) → (t t₀ t₁ : List ℕ) → Long t → t₀ ≡ setWord t textsPlace sheetTexts → t₁ ≡ setWord t₀ nodesAt 0
+    → Bringing s count 0 (record { next = first; kids = 0; texts = 0 }) t₁
 unfolding kidPlaces
-bringing-start s count at c t t₀ t₁ long d e =
+bringing-start s count first c t t₀ t₁ long d e =
     let size : length t₀ ≡ length t = rw d (length-setWord t textsPlace sheetTexts) in
     let all : count - 0 ≡ count = omega arith in
     record {
       left = omega arith;
       inside = c .inside;
-      same = rw (rows-none (nodeIn t₁), all) (c .same ∙ sym (ahead-none (nodesFrom count count 0 s at)));
+      same = rw (rows-none (nodeIn t₁), all) (c .same ∙ sym (ahead-none (nodesFrom count count 0 s (first .at))));
       total = rw (rows-none (nodeIn t₁));
       bytes = rw (rows-none (nodeIn t₁));
       half = omega arith;
@@ -268,8 +268,8 @@ module _ {s : List ℕ} {count : ℕ} {t : List ℕ} {i : ℕ} {f : Front} {u : 
       let all : i ≡ count = omega (arith, g .brought .left) in
       let none-left : count - i ≡ 0 = omega arith in
       record {
-        end = f .at;
-        same = g .brought .same ∙ rw (none-left, all) (ap (λ (l : List Node). got l (f .at)) (append-nil (rowsTo (nodeIn u) count)));
+        end = f .next .at;
+        same = g .brought .same ∙ rw (none-left, all) (ap (λ (l : List Node). got l (f .next .at)) (append-nil (rowsTo (nodeIn u) count)));
         kids = f .kids;
         bytes = rw all at (g .brought .bytes);
         rows = rw all at (g .brought .rows);

@@ -240,7 +240,7 @@ module _ (s : List ℕ) (n : row.Node) (i : ℕ) (f : Front) (t t₁ t₂ u : Li
             text-end = rw (words .text, its-size) (omega (arith, x .count));
           })
 
-  pub row-brought : RowIn s n t u i f (record { at = n .next .at; kids = last; texts = texts })
+  pub row-brought : RowIn s n t u i f (record { next = n .next; kids = last; texts = texts })
   unfolding kidsIn textFrom
   row-brought =
       record {

@@ -1,24 +1,21 @@
 -- Where a text lies, and what is read of it there. Assumes nothing.
 use mathlib.Core.Path.{_≡_, sym, ap, _∙_}
-use mathlib.Core.List.{List, []}
+use mathlib.Core.Bool.{true, false}
+use mathlib.Core.List.{List}
 use Prim.Native.Nat.{ℕ, _+_, _-_, _≤_, _<_}
 use native.Mathlib.Omega.{arith}
 use lib.ListN.{length, getD, List·getD-eq-default}
-use borrow.Author.Tests.{le-leb, lt-leb}
+use borrow.Author.Tests.{le-leb, leb-true}
 use Rattle.words.specs.Runs.{run}
 use Rattle.words.specs.Words.{word}
 use Rattle.words.proofs.RunLaws.{length-run, getD-run, run-none}
 use Rattle.layout.specs.Layout.{Long, textsPlace, textsAt, textLimit}
-use Rattle.layout.specs.Rows.{cap}
-use Rattle.layout.specs.Texts.{textsUsed, textOf, textIn}
+use Rattle.layout.specs.Texts.{textsUsed, textOf, textIn, textHeld}
 use Rattle.layout.proofs.RowLaws.{cap-le, cap-lim}
+use Rattle.layout.proofs.TextLaws.{text-held, text-unheld}
 use Rattle.intake.specs.TextReads.{Lies}
 
 -- ---- where it lies
-pub used-from : (s : List ℕ) (a b : ℕ) → a ≡ word s textsPlace → b ≡ cap a textLimit → b ≡ textsUsed s
-unfolding textsUsed
-used-from s a b p q = rw (q, p)
-
 pub used-few : (s : List ℕ) → textsUsed s ≤ textLimit
 unfolding textsUsed
 used-few s = cap-lim (word s textsPlace) textLimit
@@ -32,23 +29,18 @@ module _ (s : List ℕ) (k : ℕ) where
   unfolding textIn textOf
   text-in h = rw (le-leb (k + 4 + word s (textsAt + k)) (textsUsed s) h)
 
-  text-out : textsUsed s < k + 4 + word s (textsAt + k) → textIn s k ≡ []
-  unfolding textIn textOf
-  text-out h = rw (lt-leb (k + 4 + word s (textsAt + k)) (textsUsed s) h)
+  -- nothing of it, where the test of the bytes in use fails
+  pub lies-nowhere : textHeld s k ≡ false → Lies s k 0 0
+  lies-nowhere h = record { inside = omega arith; short = omega arith; same = text-unheld s k h ∙ sym (run-none s 0 0 0 (omega arith)) }
 
-  nowhere : textIn s k ≡ [] → Lies s k 0 0
-  nowhere e = record { inside = omega arith; short = omega arith; same = e ∙ sym (run-none s 0 0 0 (omega arith)) }
+  module _ (h : textHeld s k ≡ true) where
+    -- else its length and its bytes are in the region
+    pub held-inside : k + 4 + word s (textsAt + k) ≤ textLimit
+    unfolding textHeld
+    held-inside = omega (arith, leb-true (k + 4 + word s (textsAt + k)) (textsUsed s) h, used-few s)
 
-  module _ (used : ℕ) (u : used ≡ textsUsed s) where
-    pub lies-past : used < k + 4 → Lies s k 0 0
-    lies-past h = nowhere (text-out (omega arith))
-
-    module _ (n : ℕ) (e : n ≡ word s (textsAt + k)) where
-      pub lies-beyond : used < k + 4 + n → Lies s k 0 0
-      lies-beyond h = nowhere (text-out (omega arith))
-
-      pub lies-there : Long s → k + 4 + n ≤ used → Lies s k (3162240 + k + 4) n
-      lies-there long h = record { inside = omega (arith, used-few s); short = omega (arith, used-few s); same = rw e (text-in (omega arith)) }
+    pub lies-there : Long s → (n : ℕ) → n ≡ word s (textsAt + k) → Lies s k (3162240 + k + 4) n
+    lies-there long n e = record { inside = omega (arith, held-inside); short = omega (arith, held-inside); same = rw e (text-held s k h) }
 
 -- ---- what is read of it
 module _ {s : List ℕ} {k at n : ℕ} (x : Lies s k at n) where

@@ -130,7 +130,7 @@ pub record RowIn (s : List ℕ) (n : row.Node) (t u : List ℕ) (i : ℕ) (f g :
   pub same : rowsTo (nodeIn u) (i + 1) ≡ rowsTo (nodeIn t) i ++ (nodeOf s n ∷ [])
   pub kids : g .kids ≡ f .kids + length (nodeOf s n .kids)
   pub texts : g .texts ≡ f .texts + 4 + length (nodeOf s n .text)
-  pub place : g .at ≡ n .next .at
+  pub place : g .next .at ≡ n .next .at
   pub wrote : Within t u nodesAt storeBytes
 
 pub record RowOver (s : List ℕ) (n : row.Node) (t u : List ℕ) (f : Front) : Type 0 where
@@ -150,11 +150,11 @@ ahead ns (bad why at) = bad why at
 -- the first i of `count` nodes are in the store, and the others follow in the sheet
 pub record Bringing (s : List ℕ) (count i : ℕ) (f : Front) (t : List ℕ) : Type 0 where
   pub left : i ≤ count
-  pub inside : f .at ≤ length s
-  pub same : nodeList s 0 ≡ ahead (rowsTo (nodeIn t) i) (nodesFrom (count - i) count i s (f .at))
+  pub inside : f .next .at ≤ length s
+  pub same : nodeList s 0 ≡ ahead (rowsTo (nodeIn t) i) (nodesFrom (count - i) count i s (f .next .at))
   pub total : kidPlaces (rowsTo (nodeIn t) i) ≡ f .kids
   pub bytes : textBytes (rowsTo (nodeIn t) i) ≡ f .texts
-  pub half : 2 * f .texts ≤ f .at
+  pub half : 2 * f .texts ≤ f .next .at
   pub rows : Rows t i (f .kids) (f .texts)
 
 -- the sheet is none that is accepted, or its kids are too many

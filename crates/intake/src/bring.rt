@@ -45,7 +45,7 @@ enum KidWord {
 
 // The place of the next node in the sheet, and where its kids and its text will lie.
 pub struct Front {
-    pub at: usize,
+    pub next: Position,
     pub kids: u32,
     pub texts: u32,
 }
@@ -146,7 +146,7 @@ fn bring_row(sheet: &[u8], i: u32, node: Node, front: Front, store: &mut [u8]) -
                     end,
                 );
                 Step::More(Front {
-                    at: next.at,
+                    next,
                     kids: end,
                     texts,
                 })
@@ -160,7 +160,7 @@ fn bring_node(sheet: &[u8], nodes: u32, i: u32, front: Front, store: &mut [u8]) 
     requires { ⌜ Long (now store) × ((nodes ≤ 4096) × ((i < nodes) × Bringing (now sheet) nodes i front (now store))) ⌝ }
     ensures { λ r. ⌜ NodeBrought (now (sheet .entry)) nodes i (now (store .entry)) (now (store .exit)) r ⌝ }
 {
-    let here = Position { at: front.at };
+    let here = front.next;
     match here.node(sheet, nodes, i) {
         NodeRead::Bad(_, _) => Step::Full,
         NodeRead::Value(node) => bring_row(sheet, i, node, front, store),
@@ -188,17 +188,17 @@ fn bring_all(sheet: &[u8], nodes: u32, first: Front, store: &mut [u8]) -> Room
     Room::Upto(front.texts)
 }
 
-// So many nodes, from `at` on. They are counted last, once all of them are there. The bytes of texts in use are set
-// twice: a text past them reads as empty, so first all those that a sheet's texts may take are in use, that each node
-// has its text as soon as it is there, and at the end those that the texts took.
-fn bring_counted(sheet: &[u8], nodes: u32, at: usize, store: &mut [u8]) -> bool
-    requires { ⌜ Long (now store) × Counted (now sheet) nodes at ⌝ }
+// So many nodes, the first of which stands at `next`. They are counted last, once all of them are there. The bytes of
+// texts in use are set twice: a text past them reads as empty, so first all those that a sheet's texts may take are in
+// use, that each node has its text as soon as it is there, and at the end those that the texts took.
+fn bring_counted(sheet: &[u8], nodes: u32, next: Position, store: &mut [u8]) -> bool
+    requires { ⌜ Long (now store) × Counted (now sheet) nodes (next .at) ⌝ }
     ensures { λ r. ⌜ Brought (now (sheet .entry)) (now (store .entry)) (now (store .exit)) r ⌝ }
 {
     put32(store, TEXTS_PLACE, SHEET_TEXTS as u32);
     put32(store, NODES_AT, 0);
     let first = Front {
-        at,
+        next,
         kids: 0,
         texts: 0,
     };
@@ -218,9 +218,9 @@ pub fn bring_nodes(sheet: &[u8], store: &mut [u8]) -> bool
     requires { ⌜ Long (now store) ⌝ }
     ensures { λ r. ⌜ Brought (now (sheet .entry)) (now (store .entry)) (now (store .exit)) r ⌝ }
 {
-    let start = Position { at: 0 };
+    let start = Position::first();
     match start.number(sheet, b"nodes=", Fault::WrongCount, 1, 4096) {
         NumberRead::Bad(_, _) => false,
-        NumberRead::Value(nodes, first) => bring_counted(sheet, nodes, first.at, store),
+        NumberRead::Value(nodes, first) => bring_counted(sheet, nodes, first, store),
     }
 }

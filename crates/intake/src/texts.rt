@@ -6,7 +6,7 @@ ghost use Rattle.words.specs.Order.{order};
 ghost use Rattle.layout.specs.Layout.{Long};
 ghost use Rattle.layout.specs.Texts.{textIn};
 ghost use Rattle.intake.specs.TextReads.{Lies};
-use layout::at_most;
+use layout::text_held;
 use module::TextId;
 use words::Order;
 use words::compare_runs;
@@ -14,12 +14,10 @@ use words::equal_runs;
 use words::equal_to;
 use words::get32;
 
-// Where the bytes of texts in use are counted, and where the region of the texts begins and how long it is.
+// Where the bytes of texts in use are counted, and where the region of the texts begins.
 pub const TEXTS_PLACE: usize = 28;
 
 pub const TEXTS_AT: usize = 3162240;
-
-const TEXT_LIMIT: u32 = 786432;
 
 // Where the bytes of a text lie in the store.
 struct TextSpan {
@@ -27,24 +25,18 @@ struct TextSpan {
     len: usize,
 }
 
-// What does not lie within the bytes in use has no bytes.
+// What does not lie within the bytes in use has no bytes. The test is layout's, so that there is one reading of what is
+// in use.
 fn text_span(store: &[u8], t: TextId) -> TextSpan
     requires { ⌜ Long (now store) ⌝ }
     ensures { λ r. ⌜ Lies (now (store .entry)) (t .0) (r .at) (r .len) ⌝ }
 {
-    let used = at_most(get32(store, TEXTS_PLACE), TEXT_LIMIT) as usize;
-    let place = t.0 as usize;
-    if used < place + 4 {
+    if !text_held(store, t.0) {
         return TextSpan { at: 0, len: 0 };
     }
-    let len = get32(store, TEXTS_AT + place) as usize;
-    if used < place + 4 + len {
-        return TextSpan { at: 0, len: 0 };
-    }
-    TextSpan {
-        at: TEXTS_AT + place + 4,
-        len,
-    }
+    let place = TEXTS_AT + (t.0 as usize);
+    let len = get32(store, place) as usize;
+    TextSpan { at: place + 4, len }
 }
 
 pub fn texts_equal(store: &[u8], a: TextId, b: TextId) -> bool

@@ -79,18 +79,18 @@ module _ (nodes kind from to : ℕ) (s : List ℕ) (at flags : ℕ) (z : flags �
     unfolding nodeRest _>>=_ next
     rest-kids why place g = (sym (rw (here, q, ← f, g)), tt)
 
-    module _ (kids : Span) (g : u ≡ span.Value kids) (i : FormedIn kidList kidsOf (allBelow nodes) s u) (t : SpanRead)
-        (h : gotSpan decoded s t ≡ field "text=" hex wrongText (textFits (kindOf kind .text) flag) s (kids .end + 1)) where
+    module _ (kids : Span) (g : u ≡ span.Value kids) (i : FormedIn kidList kidsOf (allBelow nodes) s u) (third : Position) (a : third .at ≡ kids .end + 1) (t : SpanRead)
+        (h : gotSpan decoded s t ≡ field "text=" hex wrongText (textFits (kindOf kind .text) flag) s (third .at)) where
       pub rest-text : (why : Fault) (place : ℕ) → t ≡ span.Bad why place
           → (gotNode s (read.Bad why place) ≡ nodeRest nodes kind from to s at) × FormedNode s nodes (read.Bad why place)
       unfolding nodeRest _>>=_ next
-      rest-text why place k = (sym (rw (here, q, ← f, g, ← h, k)), tt)
+      rest-text why place k = (sym (rw (here, q, ← f, g, ← a, ← h, k)), tt)
 
-      pub rest-node : FormedIn hex decoded (textFits (kindOf kind .text) flag) s t → (text : Span) → t ≡ span.Value text
-          → let n : Node = record { kind = kind; from = from; to = to; flag = flag; kids = kids; text = text; next = record { at = text .end + 1 } } in
+      pub rest-node : FormedIn hex decoded (textFits (kindOf kind .text) flag) s t → (text : Span) → t ≡ span.Value text → (after : Position) → after .at ≡ text .end + 1
+          → let n : Node = record { kind = kind; from = from; to = to; flag = flag; kids = kids; text = text; next = after } in
           (gotNode s (read.Value n) ≡ nodeRest nodes kind from to s at) × FormedNode s nodes (read.Value n)
       unfolding nodeRest _>>=_ next give
-      rest-node j text k = (sym (rw (here, q, ← f, g, ← h, k)), record { kids = rw g at i; text = rw k at j; next = refl })
+      rest-node j text k after b = (sym (rw (here, q, ← f, g, ← a, ← h, k, ← b)), record { kids = rw g at i; text = rw k at j; next = b })
 
 pub span-inside : {A : Type 0} (parse : Text → Option A) (get : Text → A) (test : A → Bool) (s : List ℕ) (u : SpanRead) (v : Span) → u ≡ span.Value v
     → FormedIn parse get test s u → v .end < length s

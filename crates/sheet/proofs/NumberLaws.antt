@@ -46,11 +46,11 @@ module _ (key : Text) (why : Fault) (lo hi : ℕ) (s : List ℕ) (at : ℕ) (lin
           let t : (leb lo x && leb x hi) ≡ false = rw (lt-leb lo x h) in
           sym (field-wrong key decimal why _ s at _ _ here x (exact _ x told (omega arith)) t)
 
-      pub number-right : hi ≤ 4294967295 → lo ≤ x → x ≤ hi → got x (v .end + 1) ≡ numberOf key why lo hi s at
+      pub number-right : hi ≤ 4294967295 → lo ≤ x → x ≤ hi → (after : ℕ) → after ≡ v .end + 1 → got x after ≡ numberOf key why lo hi s at
       unfolding numberOf
-      number-right l h k =
+      number-right l h k after z =
           let t : (leb lo x && leb x hi) ≡ true = rw (le-leb lo x h, le-leb x hi k) in
-          sym (field-right key decimal why _ s at _ _ here x (exact _ x told (omega arith)) t)
+          rw z (sym (field-right key decimal why _ s at _ _ here x (exact _ x told (omega arith)) t))
 
       pub number-high : hi ≤ 4294967295 → hi < x → bad why at ≡ numberOf key why lo hi s at
       unfolding numberOf

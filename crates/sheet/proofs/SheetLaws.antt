@@ -86,9 +86,10 @@ module _ (s : List ℕ) where
   unfolding answer readSheet
   sheet-long h = rw (lt-leb (length s) 1048576 h)
 
-  module _ (h : length s ≤ 1048576) (r : NumberRead) (e : gotNumber r ≡ numberOf (bytes "nodes=") wrongCount 1 4096 s 0) where
+  module _ (h : length s ≤ 1048576) (start : Position) (z : start .at ≡ 0) (r : NumberRead)
+      (e : gotNumber r ≡ numberOf (bytes "nodes=") wrongCount 1 4096 s (start .at)) where
     here : spec.number "nodes=" wrongCount 1 4096 s 0 ≡ gotNumber r
-    here = number-by "nodes=" wrongCount 1 4096 s 0 (gotNumber r) e
+    here = number-by "nodes=" wrongCount 1 4096 s 0 (gotNumber r) (rw z at e)
 
     pub sheet-count : (why : Fault) (at n : ℕ) → r ≡ number.Bad why at → n ≡ faultNumber (faultOf why) → Refused n at ≡ answer s (readSheet s)
     unfolding answer readSheet whole nodeList _>>=_ next

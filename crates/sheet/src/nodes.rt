@@ -1,6 +1,6 @@
 // A node: six lines.
 ghost use mathlib.Core.Path.{_≡_};
-ghost use Prim.Native.Nat.{_+_, _≤_};
+ghost use Prim.Native.Nat.{_≤_};
 ghost use lib.ListN.{length};
 ghost use lib.Dec.{eqb};
 ghost use Rattle.spec.specs.Basics.{if_then_else_};
@@ -53,11 +53,11 @@ impl Position {
             NumberRead::Value(flag, second) => match second.kids(s, nodes) {
                 SpanRead::Bad(why, at) => NodeRead::Bad(why, at),
                 SpanRead::Value(kids) => {
-                    let third = Position { at: kids.end + 1 };
+                    let third = kids.after();
                     match third.text(s, kind, flag) {
                         SpanRead::Bad(why, at) => NodeRead::Bad(why, at),
                         SpanRead::Value(text) => {
-                            let next = Position { at: text.end + 1 };
+                            let next = text.after();
                             NodeRead::Value(Node {
                                 kind,
                                 from,

@@ -1,6 +1,6 @@
 // A line whose value is a number in a range.
 ghost use mathlib.Core.Path.{_≡_};
-ghost use Prim.Native.Nat.{_+_, _≤_};
+ghost use Prim.Native.Nat.{_≤_};
 ghost use lib.ListN.{length};
 ghost use Rattle.sheet.specs.Keyed.{numberOf};
 ghost use Rattle.sheet.specs.Faults.{faultOf};
@@ -37,7 +37,7 @@ impl Position {
                         if (hi as u64) < n {
                             return NumberRead::Bad(why, at);
                         }
-                        NumberRead::Value(n as u32, Position { at: end + 1 })
+                        NumberRead::Value(n as u32, v.after())
                     }
                 }
             }

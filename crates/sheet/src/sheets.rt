@@ -42,22 +42,20 @@ impl Position {
         requires { ⌜ self .at ≤ length (now s) ⌝ }
         ensures { λ r. ⌜ gotNodes nodes r ≡ counted (nodesFrom nodes nodes 0 (now (s .entry)) (self .at)) ⌝ }
     {
-        let mut at = self.at;
+        let mut here = self;
         let mut i: u32 = 0;
         while i < nodes {
-            let here = Position { at };
             match here.node(s, nodes, i) {
                 NodeRead::Bad(why, place) => {
                     return NodesRead::Bad(why, place);
                 }
                 NodeRead::Value(n) => {
-                    let next = n.next;
-                    at = next.at;
+                    here = n.next;
                 }
             }
             i += 1;
         }
-        NodesRead::End(Position { at })
+        NodesRead::End(here)
     }
 }
 
@@ -68,7 +66,7 @@ pub fn read_sheet(s: &[u8]) -> SheetRead
     if 1048576 < s.len() {
         return SheetRead::Refused(1, 0);
     }
-    let start = Position { at: 0 };
+    let start = Position::first();
     match start.number(s, b"nodes=", Fault::WrongCount, 1, 4096) {
         NumberRead::Bad(why, at) => SheetRead::Refused(refusal(why), at),
         NumberRead::Value(nodes, first) => match first.nodes(s, nodes) {

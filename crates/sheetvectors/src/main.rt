@@ -27,13 +27,13 @@ fn print(said: SheetRead) {
     }
 }
 
-// Judges the sheet whose length is told at `at`, and gives the place after it: the end where there is
-// no such sheet.
-fn judge_next(list: &[u8], at: usize) -> usize
-    requires { ⌜ at < length (now list) ⌝ }
-    ensures { λ r. ⌜ (at < r) × (r ≤ length (now (list .entry))) ⌝ }
+// Judges the first sheet of a list, whose length is told in the line before it, and gives how many bytes both take: all
+// that are left where there is no such sheet.
+fn judge_first(list: &[u8]) -> usize
+    requires { ⌜ 0 < length (now list) ⌝ }
+    ensures { λ r. ⌜ (0 < r) × (r ≤ length (now (list .entry))) ⌝ }
 {
-    let here = Position { at };
+    let here = Position::first();
     match here.number(list, b"sheet=", Fault::WrongCount, 0, 1048576) {
         NumberRead::Bad(_, _) => {
             io::write_all(STDOUT_FILENO, b"no sheet\n");
@@ -42,7 +42,7 @@ fn judge_next(list: &[u8], at: usize) -> usize
         NumberRead::Value(count, next) => {
             let start = next.at;
             let count = count as usize;
-            if start <= at {
+            if start == 0 {
                 return list.len();
             }
             if list.len() < start {
@@ -62,7 +62,7 @@ fn judge_next(list: &[u8], at: usize) -> usize
 fn judge_all(list: &[u8]) {
     let mut at: usize = 0;
     while at < list.len() {
-        at = judge_next(list, at);
+        at += judge_first(&list[at..]);
     }
 }
 

@@ -74,7 +74,7 @@ module _ (s : List ℕ) (nodes n at : ℕ) (count : nodes ≡ length (nodesIn s)
     never-bad why place q = let z : _≡_ {A = ℕ} 0 1 = not-bad (ap (gotNode s) (sym q) ∙ as-read) in omega arith
 
     pub lines-read : (x : row.Node) → r ≡ read.Value x
-        → Read s n (record { kind = x .kind; kids = x .kids .start; end = x .kids .end; next = x .next .at })
+        → Read s n (record { kind = x .kind; kids = x .kids .start; end = x .kids .end; next = x .next })
     unfolding kidsAt
     lines-read x q =
         let g = same-got (ap (gotNode s) (sym q) ∙ as-read) in

@@ -62,7 +62,7 @@ module _ (s : List ℕ) (left : ℕ) (n : NodeId) (r : Lines) (h : Read s n r) (
 
   -- else the kids are walked
   pub kids-walked : true ≡ countFits (r .kind) kids → (p : Places) → Fills p (kindOf (r .kind)) → (w : Walked)
-      → Walks s (kidsWalk s left n (record { counted = p .counted; listed = p .listed; kid = r .kids; end = r .end; front = record { highest = n; at = r .next } })) w
+      → Walks s (kidsWalk s left n (record { counted = p .counted; listed = p .listed; kid = r .kids; end = r .end; front = record { highest = n; next = r .next } })) w
       → Walks s (walkTo (nodesIn s) left n) w
   unfolding kidsWalk
   kids-walked e p f w walked =

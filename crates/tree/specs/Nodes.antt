@@ -47,7 +47,7 @@ pub record Read (s : List ℕ) (n : ℕ) (r : Lines) : Type 0 where
   pub kind : r .kind ≡ nodeAt (nodesIn s) n .kind
   pub kids : kidsAt s (r .kids) (r .end) ≡ nodeAt (nodesIn s) n .kids
   pub listed : Kids s (r .kids) (r .end)
-  pub next : Stands s (n + 1) (r .next)
+  pub next : Stands s (n + 1) (r .next .at)
 
 -- the kids at a place are the one that was read, and those at the next place
 pub record After (s : List ℕ) (at end : ℕ) (k : Option NodeId) (next : ℕ) : Type 0 where

@@ -24,7 +24,7 @@ walkedOf (Stopped number place) = stopped number place
 
 -- the node after the highest met stands at the front's place
 abbrev pub Moved : List ℕ → Walked → Type 0
-Moved s (Met front) = Stands s (front .highest + 1) (front .at)
+Moved s (Met front) = Stands s (front .highest + 1) (front .next .at)
 Moved s (Stopped number place) = Unit
 
 -- the code's answer is that of the walk, and where it goes on its place is right
@@ -48,7 +48,7 @@ kidsWalk s left n t =
 
 pub record Ready (s : List ℕ) (t : Todo) : Type 0 where
   pub kids : Kids s (t .kid) (t .end)
-  pub place : Stands s (t .front .highest + 1) (t .front .at)
+  pub place : Stands s (t .front .highest + 1) (t .front .next .at)
 
 -- what is to do after a kid gives what was to do before it
 pub record Goes (s : List ℕ) (left : ℕ) (n : NodeId) (t u : Todo) : Type 0 where

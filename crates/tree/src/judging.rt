@@ -32,8 +32,7 @@ fn judge_tree(s: &[u8], nodes: u32, first: Position) -> SheetRead
     requires { ⌜ Nodes (now s) nodes first ⌝ }
     ensures { λ r. ⌜ r ≡ answer (now (s .entry)) (judge (now (s .entry))) ⌝ }
 {
-    let at = first.at;
-    let root = lines_of(s, nodes, 0, at);
+    let root = lines_of(s, nodes, 0, first);
     let walked = walk(s, nodes, 0, 255, root);
     all_met(nodes, first, walked)
 }

@@ -13,7 +13,7 @@ pub struct Lines {
     pub kind: u32,
     pub kids: usize,
     pub end: usize,
-    pub next: usize,
+    pub next: Position,
 }
 
 // A kid, and the place of the next one.
@@ -23,12 +23,11 @@ pub enum Kid {
     Number(u32, usize),
 }
 
-// The lines of the node n, which stands at `at`.
-pub fn lines_of(s: &[u8], nodes: u32, n: u32, at: usize) -> Lines
-    requires { ⌜ (nodes ≡ length (nodesIn (now s))) × ((n < nodes) × Stands (now s) n at) ⌝ }
+// The lines of the node n, which stands here.
+pub fn lines_of(s: &[u8], nodes: u32, n: u32, here: Position) -> Lines
+    requires { ⌜ (nodes ≡ length (nodesIn (now s))) × ((n < nodes) × Stands (now s) n (here .at)) ⌝ }
     ensures { λ r. ⌜ Read (now (s .entry)) n r ⌝ }
 {
-    let here = Position { at };
     match here.node(s, nodes, n) {
         NodeRead::Value(node) => {
             let kids = node.kids;
@@ -37,15 +36,15 @@ pub fn lines_of(s: &[u8], nodes: u32, n: u32, at: usize) -> Lines
                 kind: node.kind,
                 kids: kids.start,
                 end: kids.end,
-                next: next.at,
+                next,
             }
         }
         // Not in an accepted sheet.
-        NodeRead::Bad(_, place) => Lines {
+        NodeRead::Bad(_, _) => Lines {
             kind: 0,
             kids: 0,
             end: 0,
-            next: place,
+            next: here,
         },
     }
 }

@@ -22,11 +22,12 @@ use crate::places::place_of;
 use crate::places::places_of;
 use crate::slots::Slot;
 use crate::slots::takes;
+use sheet::Position;
 
 // The highest node met, and the place of the node after it.
 pub struct Front {
     pub highest: u32,
-    pub at: usize,
+    pub next: Position,
 }
 
 // How far a walk has come; or the number of the refusal that stopped it, and the parent node.
@@ -68,15 +69,15 @@ fn after_kid(walked: Walked, counted: Counted, listed: Listed, kid: usize, end: 
 
 // The kid k of the node n, which goes into the slot: the place and the kind are judged before the depth.
 fn enter(s: &[u8], nodes: u32, n: u32, left: u32, k: u32, slot: Slot, front: Front) -> Walked
-    requires { ⌜ (nodes ≡ length (nodesIn (now s))) × ((k < nodes) × Stands (now s) (front .highest + 1) (front .at)) ⌝ }
+    requires { ⌜ (nodes ≡ length (nodesIn (now s))) × ((k < nodes) × Stands (now s) (front .highest + 1) (front .next .at)) ⌝ }
     ensures { λ r. ⌜ Walks (now (s .entry)) (entered (nodesIn (now (s .entry))) left n (slotOf slot) k (front .highest)) r ⌝ }
 {
     let highest = front.highest;
-    let at = front.at;
+    let next = front.next;
     if k != highest + 1 {
         return Walked::Stopped(5, n);
     }
-    let lines = lines_of(s, nodes, k, at);
+    let lines = lines_of(s, nodes, k, next);
     let kind = lines.kind;
     if !takes(slot, kind) {
         return Walked::Stopped(5, n);
@@ -150,7 +151,7 @@ pub fn walk(s: &[u8], nodes: u32, n: u32, left: u32, lines: Lines) -> Walked
     let kind = lines.kind;
     let kid = lines.kids;
     let end = lines.end;
-    let at = lines.next;
+    let next = lines.next;
     let places = places_of(kind);
     let kids = count_kids(s, kid, end);
     if !count_fits(kind, places, kids) {
@@ -158,7 +159,7 @@ pub fn walk(s: &[u8], nodes: u32, n: u32, left: u32, lines: Lines) -> Walked
     }
     let counted = places.counted;
     let listed = places.listed;
-    let front = Front { highest: n, at };
+    let front = Front { highest: n, next };
     walk_kids(
         s,
         nodes,

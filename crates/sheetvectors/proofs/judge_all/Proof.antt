@@ -15,8 +15,20 @@ abbrev μ-loop : tie.MeasureT-loop
 loop-holds : tie.Need-loop-holds Inv-loop μ-loop
 loop-holds c = omega arith
 
-judge-next-requires : tie.Need-judge-next-requires Inv-loop μ-loop
-judge-next-requires c κs = search needs
+sub-judge-first : tie.Need-sub-judge-first Inv-loop μ-loop
+sub-judge-first c = search needs
+
+part-judge-first-start : tie.Need-part-judge-first-start Inv-loop μ-loop
+part-judge-first-start c = search needs
+
+part-judge-first-end : tie.Need-part-judge-first-end Inv-loop μ-loop
+part-judge-first-end c = search needs
+
+judge-first-requires : tie.Need-judge-first-requires Inv-loop μ-loop
+judge-first-requires c κs = search needs
+
+add-at : tie.Need-add-at Inv-loop μ-loop
+add-at c = search needs
 
 loop-less : tie.Need-loop-less Inv-loop μ-loop
 loop-less c = search needs
@@ -30,4 +42,15 @@ returns c = search needs
 pub judge-all-spec : {M : Type 1} → statement M
 judge-all-spec =
     tie.close
-    (tie.spec Inv-loop μ-loop loop-holds judge-next-requires loop-less loop-again returns)
+    (tie.spec
+    Inv-loop
+    μ-loop
+    loop-holds
+    sub-judge-first
+    part-judge-first-start
+    part-judge-first-end
+    judge-first-requires
+    add-at
+    loop-less
+    loop-again
+    returns)

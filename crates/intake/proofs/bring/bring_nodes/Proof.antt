@@ -4,6 +4,9 @@ use Rattle.intake.proofs.BringLaws.{count-bad, counted}
 use Rattle.intake.proofs.bring.bring_nodes.Statement.{statement}
 use Rattle.intake.proofs.bring.bring_nodes.Tie as tie
 
+first-requires : tie.Need-first-requires
+first-requires c κs = search needs
+
 slice-aggregate-number : tie.Need-slice-aggregate-number
 slice-aggregate-number c = search needs
 
@@ -17,10 +20,10 @@ enum-known-nodes : tie.Need-enum-known-nodes
 enum-known-nodes c = search needs
 
 bring-counted-requires : tie.Need-bring-counted-requires
-bring-counted-requires c κs = (c .before .before .before .before .before .before .before .before .pre, counted _ _ (c .before .before .before .before .number .ensures) _ _ (c .before .before .nodes .given .1))
+bring-counted-requires c κs = (c .before .before .before .before .before .before .before .before .before .pre, counted _ (c .before .before .before .before .before .before .first .result) (c .before .before .before .before .before .before .first .ensures) _ (c .before .before .before .before .number .ensures) _ _ (c .before .before .nodes .given .1))
 
 returns : tie.Need-returns
-returns c = count-bad _ _ (c .before .before .number .ensures) _ _ (c .enum-told .given .1) _
+returns c = count-bad _ (c .before .before .before .before .first .result) (c .before .before .before .before .first .ensures) _ (c .before .before .number .ensures) _ _ (c .enum-told .given .1) _
 
 same-length : tie.Need-same-length
 same-length c = search needs
@@ -32,6 +35,7 @@ pub bring-nodes-spec : {M : Type 1} → statement M
 bring-nodes-spec =
     tie.close
     (tie.spec
+    first-requires
     slice-aggregate-number
     number-requires
     enum-told

@@ -34,8 +34,8 @@ returns-2 c = number-high (c .before .before .before .before .before .before .be
 cast-t20 : tie.Need-cast-t20
 cast-t20 c = search needs
 
-add-t21 : tie.Need-add-t21
-add-t21 c = record { fits = omega (arith, value-inside (c .before .before .before .before .before .before .before .before .before .line .result) (c .before .before .before .before .before .before .before .v .given .0 .0) _ (c .before .before .before .before .before .before .before .v .given .1) (c .before .before .before .before .before .before .before .before .before .line .ensures .1)) }
+after-requires : tie.Need-after-requires
+after-requires c κs = omega (arith, value-inside (c .before .before .before .before .before .before .before .before .before .line .result) (c .before .before .before .before .before .before .before .v .given .0 .0) _ (c .before .before .before .before .before .before .before .v .given .1) (c .before .before .before .before .before .before .before .before .before .line .ensures .1))
 
 returns-3 : tie.Need-returns-3
 returns-3 c = number-other (c .before .before .before .before .before .args .key .now) (faultOf (c .before .before .before .before .before .args .why)) (c .before .before .before .before .before .args .lo) (c .before .before .before .before .before .args .hi) (c .before .before .before .before .before .args .s .now) (c .before .before .before .before .before .args .self .at) (c .before .before .line .result) (c .before .before .line .ensures .0) (c .enum-told .given .1)
@@ -44,7 +44,7 @@ returns-4 : tie.Need-returns-4
 returns-4 c = number-malformed (c .before .before .before .before .before .before .before .before .before .args .key .now) (faultOf (c .before .before .before .before .before .before .before .before .before .args .why)) (c .before .before .before .before .before .before .before .before .before .args .lo) (c .before .before .before .before .before .before .before .before .before .args .hi) (c .before .before .before .before .before .before .before .before .before .args .s .now) (c .before .before .before .before .before .before .before .before .before .args .self .at) (c .before .before .before .before .before .before .line .result) (c .before .before .before .before .before .before .line .ensures .0) (c .before .before .before .before .v .given .0 .0) (c .before .before .before .before .v .given .1) (c .before .before .decimal .result) (c .before .before .decimal .ensures) (c .enum-told2 .given .1)
 
 returns-5 : tie.Need-returns-5
-returns-5 c = number-right (c .before .before .before .before .before .before .before .before .before .before .before .before .args .key .now) (faultOf (c .before .before .before .before .before .before .before .before .before .before .before .before .args .why)) (c .before .before .before .before .before .before .before .before .before .before .before .before .args .lo) (c .before .before .before .before .before .before .before .before .before .before .before .before .args .hi) (c .before .before .before .before .before .before .before .before .before .before .before .before .args .s .now) (c .before .before .before .before .before .before .before .before .before .before .before .before .args .self .at) (c .before .before .before .before .before .before .before .before .before .line .result) (c .before .before .before .before .before .before .before .before .before .line .ensures .0) (c .before .before .before .before .before .before .before .v .given .0 .0) (c .before .before .before .before .before .before .before .v .given .1) (c .before .before .before .before .before .decimal .result) (c .before .before .before .before .before .decimal .ensures) (c .before .before .before .n .given .0 .0) (c .before .before .before .n .given .1) (omega arith) (c .before .if1 .left) (c .if2 .left)
+returns-5 c = number-right (c .before .before .before .before .before .before .before .before .before .before .before .before .before .args .key .now) (faultOf (c .before .before .before .before .before .before .before .before .before .before .before .before .before .args .why)) (c .before .before .before .before .before .before .before .before .before .before .before .before .before .args .lo) (c .before .before .before .before .before .before .before .before .before .before .before .before .before .args .hi) (c .before .before .before .before .before .before .before .before .before .before .before .before .before .args .s .now) (c .before .before .before .before .before .before .before .before .before .before .before .before .before .args .self .at) (c .before .before .before .before .before .before .before .before .before .before .line .result) (c .before .before .before .before .before .before .before .before .before .before .line .ensures .0) (c .before .before .before .before .before .before .before .before .v .given .0 .0) (c .before .before .before .before .before .before .before .before .v .given .1) (c .before .before .before .before .before .before .decimal .result) (c .before .before .before .before .before .before .decimal .ensures) (c .before .before .before .before .n .given .0 .0) (c .before .before .before .before .n .given .1) (omega arith) (c .before .before .if1 .left) (c .before .if2 .left) _ (c .after .ensures)
 
 pub number-spec : {M : Type 1} → statement M
 number-spec =
@@ -59,7 +59,7 @@ number-spec =
     returns
     returns-2
     cast-t20
-    add-t21
+    after-requires
     returns-3
     returns-4
     returns-5)

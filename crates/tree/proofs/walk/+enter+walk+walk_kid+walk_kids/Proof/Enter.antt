@@ -17,13 +17,13 @@ abbrev pub calls : ℕ → lts.Claims
 calls t = (lines-of-reads.Asked, lines-of-reads.Learnt, takes-reads.Asked, takes-reads.Learnt, walk-below t, walk.Post)
 
 add-if1 : (t : ℕ) → lts.Need-add-if1 (calls t) (enter-at t) enter.Post
-add-if1 t c = omega (arith, (c .before) .pre .1 .0, (c .before) .pre .1 .1 .1 .inside)
+add-if1 t c = omega (arith, (c .before .before) .pre .1 .0, (c .before .before) .pre .1 .1 .1 .inside)
 
 returns : (t : ℕ) → lts.Need-returns (calls t) (enter-at t) enter.Post
 returns t c = stops _ 5 _ (misnumbered _ _ _ _ _ _ ((c .if1) .taken))
 
 lines-of-requires : (t : ℕ) → lts.Need-lines-of-requires (calls t) (enter-at t) enter.Post
-lines-of-requires t c κs = ((c .before .before) .pre .1 .0, ((c .before .before) .pre .1 .1 .0, rw ((c .if1) .left) ((c .before .before) .pre .1 .1 .1)))
+lines-of-requires t c κs = ((c .before .before .before) .pre .1 .0, ((c .before .before .before) .pre .1 .1 .0, rw ((c .if1) .left) ((c .before .before .before) .pre .1 .1 .1)))
 
 takes-requires : (t : ℕ) → lts.Need-takes-requires (calls t) (enter-at t) enter.Post
 takes-requires t c κs = search needs
@@ -38,7 +38,7 @@ sub-walk : (t : ℕ) → lts.Need-sub-walk (calls t) (enter-at t) enter.Post
 sub-walk t c = omega arith
 
 walk-requires : (t : ℕ) → lts.Need-walk-requires (calls t) (enter-at t) enter.Post
-walk-requires t c κs = (omega (arith, (c .before .before .before .before .before .before) .pre .0), ((c .before .before .before .before .before .before) .pre .1 .0, (c .before .before .before .lines-of) .ensures))
+walk-requires t c κs = (omega (arith, (c .before .before .before .before .before .before .before) .pre .0), ((c .before .before .before .before .before .before .before) .pre .1 .0, (c .before .before .before .lines-of) .ensures))
 
 returns-4 : (t : ℕ) → lts.Need-returns-4 (calls t) (enter-at t) enter.Post
 returns-4 t c = walks-as (goes-in _ _ _ _ _ _ ((c .before .before .before .before .before .if1) .left) (sym (not-false _ ((c .before .before .if2) .left)) ∙ ((c .before .before .before .takes) .ensures ∙ ap (takes _) ((c .before .before .before .before .lines-of) .ensures .kind))) ((c .before .if3) .left)) ((c .walk) .ensures)

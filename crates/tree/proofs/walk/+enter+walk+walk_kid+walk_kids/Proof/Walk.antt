@@ -20,19 +20,19 @@ places-of-requires : (t : ℕ) → lts.Need-places-of-requires (calls t) (walk-a
 places-of-requires t c κs = search needs
 
 count-kids-requires : (t : ℕ) → lts.Need-count-kids-requires (calls t) (walk-at t) walk.Post
-count-kids-requires t c κs = (c .before .before) .pre .1 .1 .listed
+count-kids-requires t c κs = (c .before .before .before) .pre .1 .1 .listed
 
 count-fits-requires : (t : ℕ) → lts.Need-count-fits-requires (calls t) (walk-at t) walk.Post
 count-fits-requires t c κs = (c .before .places-of) .ensures
 
 returns : (t : ℕ) → lts.Need-returns (calls t) (walk-at t) walk.Post
-returns t c = miscounted _ _ _ _ ((c .before .before .before .before .before) .pre .1 .1) _ ((c .before .before .count-kids) .ensures) (sym (not-true _ ((c .if1) .taken)) ∙ (c .before .count-fits) .ensures)
+returns t c = miscounted _ _ _ _ ((c .before .before .before .before .before .before) .pre .1 .1) _ ((c .before .before .count-kids) .ensures) (sym (not-true _ ((c .if1) .taken)) ∙ (c .before .count-fits) .ensures)
 
 walk-kids-requires : (t : ℕ) → lts.Need-walk-kids-requires (calls t) (walk-at t) walk.Post
-walk-kids-requires t c κs = (omega (arith, (c .before .before .before .before .before) .pre .0), ((c .before .before .before .before .before) .pre .1 .0, record { kids = (c .before .before .before .before .before) .pre .1 .1 .listed; place = (c .before .before .before .before .before) .pre .1 .1 .next }))
+walk-kids-requires t c κs = (omega (arith, (c .before .before .before .before .before .before) .pre .0), ((c .before .before .before .before .before .before) .pre .1 .0, record { kids = (c .before .before .before .before .before .before) .pre .1 .1 .listed; place = (c .before .before .before .before .before .before) .pre .1 .1 .next }))
 
 returns-2 : (t : ℕ) → lts.Need-returns-2 (calls t) (walk-at t) walk.Post
-returns-2 t c = kids-walked _ _ _ _ ((c .before .before .before .before .before .before) .pre .1 .1) _ ((c .before .before .before .count-kids) .ensures) (sym (not-false _ ((c .before .if1) .left)) ∙ (c .before .before .count-fits) .ensures) ((c .before .before .before .before .places-of) .result) ((c .before .before .before .before .places-of) .ensures) _ ((c .walk-kids) .ensures)
+returns-2 t c = kids-walked _ _ _ _ ((c .before .before .before .before .before .before .before) .pre .1 .1) _ ((c .before .before .before .count-kids) .ensures) (sym (not-false _ ((c .before .if1) .left)) ∙ (c .before .before .count-fits) .ensures) ((c .before .before .before .before .places-of) .result) ((c .before .before .before .before .places-of) .ensures) _ ((c .walk-kids) .ensures)
 
 pub done : {M : Type 1} (t : ℕ) → lts.Closed (calls t) (walk-at t) walk.Post M
 done t = lts.spec (calls t) (walk-at t) walk.Post (places-of-requires t) (count-kids-requires t) (count-fits-requires t) (returns t) (walk-kids-requires t) (returns-2 t)
