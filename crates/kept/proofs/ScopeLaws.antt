@@ -21,7 +21,7 @@ use Rattle.layout.specs.States.{exprsOf}
 use Rattle.layout.specs.Exprs.{madeIn}
 use Rattle.layout.specs.Keeps.{firstEntered, enteredOf, kindOfScope, scopeIn, scopeOf, scopesIn}
 use Rattle.kept.specs.Walks.{namesEntered, enteredBy, kindFits, tryOpen, tryPlace, tryRoot, root, walking, usedNames, waitingNames, Neat, Walked, Unplaced, Emptied, Waits}
-use Rattle.layout.proofs.RowLaws.{rows-same, length-rows, rows-put, between-same, cap-le, cap-lim, cap-less}
+use Rattle.layout.proofs.RowLaws.{rows-same, length-rows, rows-put, between-same, cap-le, cap-over, cap-lim, cap-less}
 use Rattle.layout.proofs.Frames.{Same, same-on, wrote-none, wrote-then}
 use Rattle.layout.proofs.WriteLaws.{Small, length-all, still-setWord, still-all, still-then, all-other, all-at}
 use Rattle.kept.proofs.ScopeReads.{scope-in, length-scopes}
@@ -40,6 +40,13 @@ cap-under n l i e h = go (leb n l) refl
     go : (b : Bool) → leb n l ≡ b → i ≡ n
     go true q = (rw q at e)
     go false q = let z : i ≡ l = (rw q at e) in absurd (omega arith)
+
+-- a counter that has room is the count of rows; where one has none, all rows are in use
+pub room-count : (r : Bool) (i n l : ℕ) → i ≡ n → r ≡ ltb i l → r ≡ true → i ≡ cap n l
+room-count r i n l e h q = let k = ltb-true i l (sym h ∙ q) in e ∙ sym (cap-le n l (omega arith))
+
+pub full-count : (r : Bool) (i n l : ℕ) → i ≡ n → r ≡ ltb i l → r ≡ false → l ≤ cap n l
+full-count r i n l e h q = let k = ltb-false i l (sym h ∙ q) in omega (arith, cap-over n l (omega arith))
 
 -- ---- the rows of scopes
 -- a scope is told by its row, by where the next one's names begin, and by its names
@@ -66,8 +73,8 @@ pub placed-same : (s t : List ℕ) → word t exprCount ≡ word s exprCount →
 placed-same s t e w = placed-by s t e (λ i h. w (usesAt + 8 * i) (omega arith) (omega arith))
 
 -- ---- one scope more
-pub scope-put : (s u t : List ℕ) (i k p w e : ℕ) → k ≡ i → u ≡ setAll s (2441304 + 12 * k) (p ∷ w ∷ e ∷ []) → t ≡ setWord u 20 (i + 1) → t ≡ setWord (setAll s (2441304 + 12 * i) (p ∷ w ∷ e ∷ [])) 20 (i + 1)
-scope-put s u t i k p w e ek eu et = et ∙ ap (λ (x : List ℕ). setWord x 20 (i + 1)) (rw ek at eu)
+pub scope-put : (s u t : List ℕ) (i k n p w e : ℕ) → k ≡ i → n ≡ i + 1 → u ≡ setAll s (2441304 + 12 * k) (p ∷ w ∷ e ∷ []) → t ≡ setWord u 20 n → t ≡ setWord (setAll s (2441304 + 12 * i) (p ∷ w ∷ e ∷ [])) 20 (i + 1)
+scope-put s u t i k n p w e ek en eu et = (rw en at et) ∙ ap (λ (x : List ℕ). setWord x 20 (i + 1)) (rw ek at eu)
 
 pub record Scoped (i p w e : ℕ) (s t : List ℕ) : Type 0 where
   pub wrote : Wrote walking s t
@@ -256,9 +263,9 @@ root-more s t i first l ei hi ef et =
     let h : first < 2 ^ 32 = rw ef (word-lt s (2441300 + 12 * i)) in
     opened tryRoot tt root s t i 0 0 first first l ei hi (omega arith) (omega arith) h ef et (rw (no-names-row s first)) (λ z. z) (omega arith) (λ neat. rw (length-scopes s, ← ei, lt-ltb i 4096 hi))
 
-pub root-full : (s : List ℕ) (i : ℕ) → i ≡ cap (word s 20) 4096 → 4096 ≤ i → Walked tryRoot s tt s
+pub root-full : (s : List ℕ) → 4096 ≤ cap (word s 20) 4096 → Walked tryRoot s tt s
 unfolding tryRoot
-root-full s i ei hi = walked-none tryRoot s tt (λ neat. rw (length-scopes s, ← ei, le-ltb i 4096 hi))
+root-full s hi = walked-none tryRoot s tt (λ neat. rw (length-scopes s, le-ltb (cap (word s 20) 4096) 4096 hi))
 
 -- whether a scope is opened
 open-fits : (k : ScopeKind) (outer : ℕ) (w : Scopes) → length (w .scopes) < 4096 → outer < 4096 → kindFits (w .scopes) k ≡ true → tryOpen k outer w ≡ openScope k outer w

@@ -21,8 +21,10 @@ use crate::limits::in_use;
 use crate::limits::less;
 use crate::limits::raised_expr;
 use crate::limits::raised_scope;
+use layout::counter;
 use layout::put_three;
 use layout::wide;
+use module::Counter;
 use module::ExprId;
 use module::MaybeExpr;
 use module::MaybeName;
@@ -57,12 +59,12 @@ pub fn scope_count(store: &[u8]) -> u32
 }
 
 // The word k of a scope's row, and 0 where there is no such scope.
-fn scope_word(store: &[u8], i: u32, k: usize) -> u32
+fn scope_word(store: &[u8], s: ScopeId, k: usize) -> u32
     requires { ⌜ Long (now store) × (k ≤ 8) ⌝ }
-    ensures { λ r. ⌜ r ≡ scopeWord (now (store .entry)) i k ⌝ }
+    ensures { λ r. ⌜ r ≡ scopeWord (now (store .entry)) (s .0) k ⌝ }
 {
-    if i < in_use(store, SCOPE_COUNT, SCOPE_LIMIT) {
-        get32(store, SCOPES + 12 * wide(i) + k)
+    if s.0 < in_use(store, SCOPE_COUNT, SCOPE_LIMIT) {
+        get32(store, SCOPES + 12 * wide(s.0) + k)
     } else {
         0
     }
@@ -72,14 +74,14 @@ pub fn scope_parent(store: &[u8], s: ScopeId) -> MaybeScope
     requires { ⌜ Long (now store) ⌝ }
     ensures { λ r. ⌜ scopeOf r ≡ scopeAt (scopesIn (now (store .entry)) .scopes) (s .0) .parent ⌝ }
 {
-    raised_scope(scope_word(store, s.0, 4))
+    raised_scope(scope_word(store, s, 4))
 }
 
 pub fn scope_with(store: &[u8], s: ScopeId) -> MaybeExpr
     requires { ⌜ Long (now store) ⌝ }
     ensures { λ r. ⌜ exprOf r ≡ withOf (scopeAt (scopesIn (now (store .entry)) .scopes) (s .0) .kind) ⌝ }
 {
-    raised_expr(scope_word(store, s.0, 8))
+    raised_expr(scope_word(store, s, 8))
 }
 
 // How many names are entered in a scope: none in that of a With.
@@ -149,14 +151,21 @@ pub fn clear_scopes(store: &mut [u8])
     put32(store, SCOPE_COUNT, 0);
 }
 
-// The row of the next scope, whose number is i, and one scope more. Where its names begin stands there
-// already, and `end` is where those of the one after it will.
-fn put_scope(store: &mut [u8], i: u32, parent: u32, source: u32, end: u32)
-    requires { ⌜ Long (now store) × (i < 4096) ⌝ }
-    ensures { λ _. ⌜ now (store .exit) ≡ setWord (setAll (now (store .entry)) (2441304 + 12 * i) (parent ∷ source ∷ end ∷ [])) 20 (i + 1) ⌝ }
+// The row of the next scope, and one scope more. Parent and With are the words of the row, one too high or 0 for none.
+// Where the scope's names begin stands there already, and `end` is where those of the one after it will.
+fn put_scope(store: &mut [u8], count: Counter, parent: u32, source: u32, end: u32)
+    requires { ⌜ Long (now store) × (count .used < 4096) ⌝ }
+    ensures { λ _. ⌜ now (store .exit) ≡ setWord (setAll (now (store .entry)) (2441304 + 12 * count .used) (parent ∷ source ∷ end ∷ [])) 20 (count .used + 1) ⌝ }
 {
-    put_three(store, SCOPES + 4 + 12 * wide(i), parent, source, end);
-    put32(store, SCOPE_COUNT, i + 1);
+    let next = count.next();
+    put_three(
+        store,
+        SCOPES + 4 + 12 * wide(count.used),
+        parent,
+        source,
+        end,
+    );
+    put32(store, SCOPE_COUNT, next.used);
 }
 
 // The scope around everything: no parent, and no names.
@@ -164,12 +173,12 @@ pub fn open_root(store: &mut [u8])
     requires { ⌜ Long (now store) ⌝ }
     ensures { λ _. ⌜ Walked tryRoot (now (store .entry)) tt (now (store .exit)) ⌝ }
 {
-    let i = in_use(store, SCOPE_COUNT, SCOPE_LIMIT);
-    if SCOPE_LIMIT <= i {
+    let count = counter(store, SCOPE_COUNT);
+    if !count.has_room(SCOPE_LIMIT) {
         return;
     }
-    let first = get32(store, SCOPES + 12 * wide(i));
-    put_scope(store, i, 0, 0, first);
+    let first = get32(store, SCOPES + 12 * wide(count.used));
+    put_scope(store, count, 0, 0, first);
 }
 
 // The expression e stands in the scope s.
@@ -206,20 +215,20 @@ pub fn open_scope(store: &mut [u8], parent: ScopeId, n: u32) -> ScopeId
     requires { ⌜ Long (now store) ⌝ }
     ensures { λ r. ⌜ Walked (tryOpen (definitions (waitingNames (now (store .entry)) n)) (parent .0)) (now (store .entry)) (r .0) (now (store .exit)) ⌝ }
 {
-    let i = in_use(store, SCOPE_COUNT, SCOPE_LIMIT);
-    if SCOPE_LIMIT <= i {
+    let count = counter(store, SCOPE_COUNT);
+    if !count.has_room(SCOPE_LIMIT) {
         return ScopeId(SCOPE_LIMIT);
     }
     let outer = parent.0;
     if SCOPE_LIMIT <= outer {
         return ScopeId(SCOPE_LIMIT);
     }
-    let first = get32(store, SCOPES + 12 * wide(i));
+    let first = get32(store, SCOPES + 12 * wide(count.used));
     if 4096 < wide(first) + wide(n) {
         return ScopeId(SCOPE_LIMIT);
     }
-    put_scope(store, i, outer + 1, 0, first + n);
-    ScopeId(i)
+    put_scope(store, count, outer + 1, 0, first + n);
+    ScopeId(count.used)
 }
 
 // A scope inside another, for the body of the With e.
@@ -227,8 +236,8 @@ pub fn open_with(store: &mut [u8], parent: ScopeId, e: ExprId) -> ScopeId
     requires { ⌜ Long (now store) ⌝ }
     ensures { λ r. ⌜ Walked (tryOpen (withExpr (e .0)) (parent .0)) (now (store .entry)) (r .0) (now (store .exit)) ⌝ }
 {
-    let i = in_use(store, SCOPE_COUNT, SCOPE_LIMIT);
-    if SCOPE_LIMIT <= i {
+    let count = counter(store, SCOPE_COUNT);
+    if !count.has_room(SCOPE_LIMIT) {
         return ScopeId(SCOPE_LIMIT);
     }
     let outer = parent.0;
@@ -239,7 +248,7 @@ pub fn open_with(store: &mut [u8], parent: ScopeId, e: ExprId) -> ScopeId
     if EXPR_LIMIT <= source {
         return ScopeId(SCOPE_LIMIT);
     }
-    let first = get32(store, SCOPES + 12 * wide(i));
-    put_scope(store, i, outer + 1, source + 1, first);
-    ScopeId(i)
+    let first = get32(store, SCOPES + 12 * wide(count.used));
+    put_scope(store, count, outer + 1, source + 1, first);
+    ScopeId(count.used)
 }

@@ -100,13 +100,19 @@ rows-insert {A} f g (suc n) i e h a b c = go (rows-insert f g n i e) (ltb i (suc
         rw (t1, d1, s1, b1)
 
 -- ---- the entry
-module _ (s u t : List ℕ) (e : Entry) (q n : ℕ) (en : n ≡ length (entriesOf s)) (few : n < 4096) (put : PutEntry n e s u) (ins : Inserted q n u t) (below : q ≤ n) where
+-- with room for one more, a place among the entries is at most their count
+pub place-below : (s : List ℕ) (n q : ℕ) → n ≡ word s entryCount → n < 4096 → q ≤ length (entriesOf s) → q ≤ n
+place-below s n q e few h = omega (arith, length-entries s, cap-le (word s entryCount) entryLimit (omega arith))
+
+module _ (s u t : List ℕ) (e : Entry) (q n : ℕ) (counted : n ≡ word s entryCount) (few : n < 4096) (put : PutEntry n e s u) (ins : Inserted q n u t) (below : q ≤ length (entriesOf s)) where
   count-is : word s entryCount ≡ n
-  count-is = omega (arith, length-entries s, go (ltb (word s entryCount) 4096) refl)
-    where
-      go : (b : Bool) → ltb (word s entryCount) 4096 ≡ b → cap (word s entryCount) entryLimit ≡ word s entryCount
-      go true p = cap-le (word s entryCount) entryLimit (omega (arith, ltb-true (word s entryCount) 4096 p))
-      go false p = absurd (omega (arith, length-entries s, cap-over (word s entryCount) entryLimit (ltb-false (word s entryCount) 4096 p)))
+  count-is = sym counted
+
+  en : n ≡ length (entriesOf s)
+  en = omega (arith, count-is, length-entries s, cap-le (word s entryCount) entryLimit (omega arith))
+
+  in-run : q ≤ n
+  in-run = place-below s n q counted few below
 
   added-wrote : Wrote ((40, 44) ∷ (2850916, 2998372) ∷ []) s t
   unfolding Outside
@@ -132,8 +138,8 @@ module _ (s u t : List ℕ) (e : Entry) (q n : ℕ) (en : n ≡ length (entriesO
       let z : n + 1 ≡ suc n = omega arith in
       let same : (j : ℕ) → j < n → word u (runAt + 4 * j) ≡ word s (runAt + 4 * j) = λ j k. put .wrote .other (runAt + 4 * j) (inr (omega arith), tt) in
       rw (ins .count, count-is, cap-le (n + 1) entryLimit (omega arith), cap-le n entryLimit (omega arith), z)
-      (rows-insert (λ i. word s (runAt + 4 * i)) (λ i. word t (runAt + 4 * i)) n q n below
-      (λ k a. ins .wrote .other (runAt + 4 * k) (inr (omega arith), (inl (omega arith), tt)) ∙ same k (omega arith))
+      (rows-insert (λ i. word s (runAt + 4 * i)) (λ i. word t (runAt + 4 * i)) n q n in-run
+      (λ k a. ins .wrote .other (runAt + 4 * k) (inr (omega arith), (inl (omega arith), tt)) ∙ same k (omega (arith, in-run)))
       (ins .own)
       (λ k a b. ins .moved k a b ∙ same k b))
 
@@ -152,7 +158,7 @@ module _ (s u t : List ℕ) (e : Entry) (q n : ℕ) (en : n ≡ length (entriesO
   pub entered : (p : Standing) → Stands p e → Place true p s q → Entered (entryWith s e) s t
   unfolding putEntry addEntry setEntries _>>=_ asks stateOf lowering Outside
   entered p stands place =
-      let l : ltb (length (entriesOf s)) entryLimit ≡ true = lt-ltb (length (entriesOf s)) entryLimit (omega arith) in
+      let l : ltb (length (entriesOf s)) entryLimit ≡ true = lt-ltb (length (entriesOf s)) entryLimit (omega (arith, en)) in
       record {
         wrote = record { size = added-wrote .size; other = λ j o. added-wrote .other j (⊎-elim (λ z. inl (omega arith)) (λ z. inr (omega arith)) (o .1 .0), (⊎-elim (λ z. inl (omega arith)) (λ z. inr (omega arith)) (o .1 .1 .1 .0), tt)) };
         still = added-still;
@@ -170,8 +176,8 @@ module _ (s u t : List ℕ) (e : Entry) (q n : ℕ) (en : n ≡ length (entriesO
         );
       }
 
-pub not-entered : (s : List ℕ) (e : MergingEntry) (n : ℕ) → n ≡ length (entriesOf s) → 4096 ≤ n → Entered e s s
+pub not-entered : (s : List ℕ) (e : MergingEntry) (n : ℕ) → n ≡ word s entryCount → 4096 ≤ n → Entered e s s
 unfolding putEntry stateOf
 not-entered s e n en h =
-    let l : ltb (length (entriesOf s)) entryLimit ≡ false = le-ltb (length (entriesOf s)) entryLimit (omega arith) in
+    let l : ltb (length (entriesOf s)) entryLimit ≡ false = le-ltb (length (entriesOf s)) entryLimit (omega (arith, length-entries s, cap-over (word s entryCount) entryLimit (omega arith))) in
     record { wrote = record { size = refl; other = λ j o. refl }; still = record { same = refl; used = refl }; does = λ fine o. (rw l, (refl, (refl, (fine, o)))) }

@@ -10,6 +10,7 @@ use crate::counts::Counts;
 use crate::fields::fields_fit;
 use crate::firsts::firsts_ascend;
 use crate::items::items_fit;
+use module::ExprId;
 use words::get32;
 
 const EXPRS: usize = 64;
@@ -17,11 +18,11 @@ const EXPRS: usize = 64;
 const ITEM_LIMIT: u32 = 32768;
 
 // A row, and the items from its own first one to the next row's.
-fn row_fits(store: &[u8], counts: Counts, e: u32) -> bool
-    requires { ⌜ Counted (now store) counts × ((e < counts .exprs) × (ascends (firstItem (now store)) (counts .exprs) itemLimit ≡ true)) ⌝ }
-    ensures { λ r. ⌜ r ≡ rowFits (now (store .entry)) e ⌝ }
+fn row_fits(store: &[u8], counts: Counts, e: ExprId) -> bool
+    requires { ⌜ Counted (now store) counts × ((e .0 < counts .exprs) × (ascends (firstItem (now store)) (counts .exprs) itemLimit ≡ true)) ⌝ }
+    ensures { λ r. ⌜ r ≡ rowFits (now (store .entry)) (e .0) ⌝ }
 {
-    let at = EXPRS + 20 * (e as usize);
+    let at = EXPRS + 20 * (e.0 as usize);
     let sort = get32(store, at + 4);
     let a = get32(store, at + 8);
     let b = get32(store, at + 12);
@@ -46,7 +47,7 @@ fn rows_fit(store: &[u8], counts: Counts) -> bool
     let n = counts.exprs;
     let mut e = 0;
     while e < n {
-        if !row_fits(store, counts, e) {
+        if !row_fits(store, counts, ExprId(e)) {
             return false;
         }
         e += 1;

@@ -6,6 +6,7 @@ ghost use Rattle.soundness.specs.Sound.{tagFits, numbersFit, itemFits, a
 ghost use Rattle.soundness.specs.SoundCounts.{Counted};
 use crate::counts::Counts;
 use crate::texts::text_fits;
+use module::ExprId;
 use words::get32;
 
 const ITEMS: usize = 524372;
@@ -29,24 +30,24 @@ fn tag_fits(sort: u32, tag: u32) -> bool
     }
 }
 
-fn numbers_fit(store: &[u8], counts: Counts, e: u32, tag: u32, a: u32, b: u32) -> bool
+fn numbers_fit(store: &[u8], counts: Counts, e: ExprId, tag: u32, a: u32, b: u32) -> bool
     requires { ⌜ Counted (now store) counts ⌝ }
-    ensures { λ r. ⌜ r ≡ numbersFit (now (store .entry)) e tag a b ⌝ }
+    ensures { λ r. ⌜ r ≡ numbersFit (now (store .entry)) (e .0) tag a b ⌝ }
 {
     match tag {
-        0 => a < e,
+        0 => a < e.0,
         1 => text_fits(store, counts, a),
         2 => true,
         3 => a < counts.names,
-        4 => b < e,
-        5..=8 => (a < counts.names) & (b < e),
-        _ => (a < e) & (b < e),
+        4 => b < e.0,
+        5..=8 => (a < counts.names) & (b < e.0),
+        _ => (a < e.0) & (b < e.0),
     }
 }
 
-fn item_fits(store: &[u8], counts: Counts, e: u32, sort: u32, j: u32) -> bool
+fn item_fits(store: &[u8], counts: Counts, e: ExprId, sort: u32, j: u32) -> bool
     requires { ⌜ Counted (now store) counts × (j < itemLimit) ⌝ }
-    ensures { λ r. ⌜ r ≡ itemFits (now (store .entry)) e sort j ⌝ }
+    ensures { λ r. ⌜ r ≡ itemFits (now (store .entry)) (e .0) sort j ⌝ }
 {
     let at = ITEMS + 12 * (j as usize);
     let tag = get32(store, at);
@@ -64,9 +65,9 @@ fn item_fits(store: &[u8], counts: Counts, e: u32, sort: u32, j: u32) -> bool
 }
 
 // The items from `from` on, before `to`.
-pub fn items_fit(store: &[u8], counts: Counts, e: u32, sort: u32, from: u32, to: u32) -> bool
+pub fn items_fit(store: &[u8], counts: Counts, e: ExprId, sort: u32, from: u32, to: u32) -> bool
     requires { ⌜ Counted (now store) counts × (to ≤ itemLimit) ⌝ }
-    ensures { λ r. ⌜ r ≡ allFrom (itemFits (now (store .entry)) e sort) from to ⌝ }
+    ensures { λ r. ⌜ r ≡ allFrom (itemFits (now (store .entry)) (e .0) sort) from to ⌝ }
 {
     let mut j = from;
     while j < to {

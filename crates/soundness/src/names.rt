@@ -7,17 +7,18 @@ ghost use Rattle.soundness.specs.Sound.{textFits, nameRowFits, namesFit,
 ghost use Rattle.soundness.specs.SoundCounts.{Counted};
 use crate::counts::Counts;
 use crate::texts::text_fits;
+use module::NameId;
 use words::get32;
 
 const NAMES: usize = 917588;
 
 const DIAGNOSTICS: usize = 999508;
 
-fn name_row_fits(store: &[u8], counts: Counts, x: u32) -> bool
-    requires { ⌜ Counted (now store) counts × (x < counts .names) ⌝ }
-    ensures { λ r. ⌜ r ≡ nameRowFits (now (store .entry)) x ⌝ }
+fn name_row_fits(store: &[u8], counts: Counts, x: NameId) -> bool
+    requires { ⌜ Counted (now store) counts × (x .0 < counts .names) ⌝ }
+    ensures { λ r. ⌜ r ≡ nameRowFits (now (store .entry)) (x .0) ⌝ }
 {
-    let at = NAMES + 8 * (x as usize);
+    let at = NAMES + 8 * (x.0 as usize);
     let kind = get32(store, at + 4);
     text_fits(store, counts, get32(store, at)) & (kind <= 4)
 }
@@ -29,7 +30,7 @@ pub fn names_fit(store: &[u8], counts: Counts) -> bool
     let n = counts.names;
     let mut x = 0;
     while x < n {
-        if !name_row_fits(store, counts, x) {
+        if !name_row_fits(store, counts, NameId(x)) {
             return false;
         }
         x += 1;

@@ -10,6 +10,7 @@ ghost use Rattle.soundness.specs.Sound.{allTo, nameFits, scopeFits, scop
 ghost use Rattle.soundness.specs.SoundCounts.{Counted};
 use crate::counts::Counts;
 use crate::firsts::firsts_ascend;
+use module::ScopeId;
 use words::get32;
 
 const SCOPES: usize = 2441300;
@@ -19,12 +20,12 @@ const ENTERED: usize = 2490464;
 const ENTERED_LIMIT: u32 = 4096;
 
 // Parent and With stand one too high, with 0 for none.
-fn scope_fits(store: &[u8], counts: Counts, i: u32) -> bool
-    requires { ⌜ Counted (now store) counts × (i < counts .scopes) ⌝ }
-    ensures { λ r. ⌜ r ≡ scopeFits (now (store .entry)) i ⌝ }
+fn scope_fits(store: &[u8], counts: Counts, s: ScopeId) -> bool
+    requires { ⌜ Counted (now store) counts × (s .0 < counts .scopes) ⌝ }
+    ensures { λ r. ⌜ r ≡ scopeFits (now (store .entry)) (s .0) ⌝ }
 {
-    let at = SCOPES + 12 * (i as usize);
-    (get32(store, at + 4) <= i) & (get32(store, at + 8) <= counts.exprs)
+    let at = SCOPES + 12 * (s.0 as usize);
+    (get32(store, at + 4) <= s.0) & (get32(store, at + 8) <= counts.exprs)
 }
 
 fn scope_rows_fit(store: &[u8], counts: Counts) -> bool
@@ -34,7 +35,7 @@ fn scope_rows_fit(store: &[u8], counts: Counts) -> bool
     let n = counts.scopes;
     let mut i = 0;
     while i < n {
-        if !scope_fits(store, counts, i) {
+        if !scope_fits(store, counts, ScopeId(i)) {
             return false;
         }
         i += 1;

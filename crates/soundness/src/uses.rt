@@ -7,6 +7,7 @@ ghost use Rattle.soundness.specs.Sound.{allTo, exprFits, useFits, keptFi
 ghost use Rattle.soundness.specs.SoundCounts.{Counted};
 use crate::counts::Counts;
 use crate::firsts::firsts_ascend;
+use module::ExprId;
 use words::get32;
 
 const USES: usize = 2310228;
@@ -18,11 +19,11 @@ const REFERENCES: usize = 2523236;
 const REFERENCE_LIMIT: u32 = 16384;
 
 // A scope stands one too high, with 0 for none; an answer is a name from 24 on.
-fn use_fits(store: &[u8], counts: Counts, e: u32) -> bool
-    requires { ⌜ Counted (now store) counts × (e < counts .exprs) ⌝ }
-    ensures { λ r. ⌜ r ≡ useFits (now (store .entry)) e ⌝ }
+fn use_fits(store: &[u8], counts: Counts, e: ExprId) -> bool
+    requires { ⌜ Counted (now store) counts × (e .0 < counts .exprs) ⌝ }
+    ensures { λ r. ⌜ r ≡ useFits (now (store .entry)) (e .0) ⌝ }
 {
-    let at = USES + 8 * (e as usize);
+    let at = USES + 8 * (e.0 as usize);
     (get32(store, at) <= counts.scopes) & (get32(store, at + 4) < 24 + counts.names)
 }
 
@@ -33,7 +34,7 @@ fn uses_fit(store: &[u8], counts: Counts) -> bool
     let n = counts.exprs;
     let mut e = 0;
     while e < n {
-        if !use_fits(store, counts, e) {
+        if !use_fits(store, counts, ExprId(e)) {
             return false;
         }
         e += 1;

@@ -25,7 +25,7 @@ use Rattle.layout.specs.Changes.{Range, Outside, Wrote, Still}
 use Rattle.layout.specs.Texts.{textIn}
 use Rattle.layout.specs.Exprs.{pointerAt}
 use Rattle.layout.specs.States.{nameIn, diagnosticIn, exprsOf, namesOf, diagnosticsOf, lostOf, setsOf, entriesOf, stateOf, waitingOf, usedOf, orderOf}
-use Rattle.store.specs.Work.{Work, workOf, withState, nameWith, putName, putDuplicate, lowering, Fine, Did, PutDiagnostic}
+use Rattle.store.specs.Work.{Work, workOf, withState, nameWith, putName, putDuplicate, lowering, Fine, Did, PutDiagnostic, PutLost}
 use Rattle.layout.proofs.RowLaws.{rows-same, length-rows, cap-le, cap-over, cap-lim}
 use Rattle.layout.proofs.Frames.{Same, apart, same-on, text-still, pointer-same, name-same, diagnostic-same, number-kept, exprs-kept, names-kept, diagnostics-kept, lost-kept, sets-kept, entries-kept, waiting-kept, order-kept}
 use Rattle.layout.proofs.WriteLaws.{still-setWord, still-all, still-then, Small, length-all, all-other, all-at}
@@ -195,34 +195,44 @@ diagnostics-coded-more s t n m key e few c fewer d still before own fits x = rec
     by i h true k = let q = ltb-true i n k in rw (before (diagnosticsAt + 28 * i) (omega arith) (omega arith)) (fits-still s t still (word s (diagnosticsAt + 28 * i)) ∙ x .rows i (omega arith))
     by i h false k = let z : i ≡ n = omega (arith, ltb-false i n k) in rw (z, own) (fits-still s t still key ∙ fits)
 
-pub duplicate-put : (s u v t : List ℕ) (first : code.Pointer) (second : Pointer) (given key n m at : ℕ) → Held given s key → Long s → n ≡ word s diagnosticCount → n < 32768 → m ≡ word s lostCount → m < 32768 → Small (first .kind ∷ first .from ∷ first .to ∷ []) → at ≡ lostAt + 12 * m
-    → PutDiagnostic n key (pointerOf first) second s u → v ≡ setAll u at (first .kind ∷ first .from ∷ first .to ∷ []) → t ≡ setWord v 12 (m + 1) → Did (putDuplicate (textIn s given) (pointerOf first) second) s tt t
+pub lost-put : (s u t : List ℕ) (p : code.Pointer) (n at : ℕ) → Long s → n < 32768 → Small (p .kind ∷ p .from ∷ p .to ∷ []) → at ≡ lostAt + 12 * n → u ≡ setAll s at (p .kind ∷ p .from ∷ p .to ∷ []) → t ≡ setWord u lostCount (n + 1) → PutLost n (pointerOf p) s t
+unfolding Outside
+lost-put s u t p n at long few hp ea eu et =
+    let ps = p .kind ∷ p .from ∷ p .to ∷ [] in
+    let lu : length u ≡ length s = rw eu (length-all s at ps) in
+    record {
+      wrote = record {
+        size = rw et (length-setWord u lostCount (n + 1)) ∙ lu;
+        other = λ j o. rw et (word-setWord-other u lostCount (n + 1) j (o .0) ∙ rw eu (all-other s at ps j (⊎-elim (λ z. inl (omega arith)) (λ z. inr (omega arith)) (o .1 .0))));
+      };
+      still = still-then {u = u} (rw eu (still-all s at ps (omega arith) (λ z. omega arith))) (rw et (still-setWord u lostCount (n + 1) (omega arith) (λ z. omega arith)));
+      count = rw et (word-setWord-same u lostCount (n + 1) (omega arith) (omega arith));
+      is = pointer-same u t (lostAt + 12 * n) (λ j a b. rw et (word-setWord-other u lostCount (n + 1) j (inr (omega arith)))) ∙ pointer-put s u at (lostAt + 12 * n) p ea (omega arith) hp eu;
+    }
+
+pub duplicate-put : (s u t : List ℕ) (first second : Pointer) (given key n m : ℕ) → Held given s key → Long s → n ≡ word s diagnosticCount → n < 32768 → m ≡ word s lostCount → m < 32768
+    → PutDiagnostic n key first second s u → PutLost m first u t → Did (putDuplicate (textIn s given) first second) s tt t
 unfolding workOf putDuplicate withState addDuplicate stateOf lowering Outside
-duplicate-put s u v t first second given key n m at held long en few em fewer hp ea put ev et =
-    let ps = first .kind ∷ first .from ∷ first .to ∷ [] in
-    let lu = put .wrote .size in
-    let lv : length v ≡ length u = rw ev (length-all u at ps) in
-    let after : (j : ℕ) → (j + 4 ≤ 12) ⊎ (16 ≤ j) → (j + 4 ≤ at) ⊎ (at + 12 ≤ j) → word t j ≡ word u j = λ j o q. rw et (word-setWord-other v 12 (m + 1) j o ∙ rw ev (all-other u at ps j q)) in
+duplicate-put s u t first second given key n m held long en few em fewer put lost =
+    let after : (j : ℕ) → (j + 4 ≤ 12) ⊎ (16 ≤ j) → (j + 4 ≤ lostAt + 12 * m) ⊎ (lostAt + 12 * m + 12 ≤ j) → word t j ≡ word u j = λ j o q. lost .wrote .other j (o, (q, tt)) in
     let wrote : Wrote ((8, 16) ∷ (999508, 2310228) ∷ []) s t = record {
-      size = rw et (length-setWord v 12 (m + 1)) ∙ lv ∙ lu;
+      size = lost .wrote .size ∙ put .wrote .size;
       other = λ j o.
           after j (⊎-elim (λ z. inl (omega arith)) (λ z. inr (omega arith)) (o .0)) (⊎-elim (λ z. inl (omega arith)) (λ z. inr (omega arith)) (o .1 .0))
           ∙ put .wrote .other j (⊎-elim (λ z. inl (omega arith)) (λ z. inr (omega arith)) (o .0), (⊎-elim (λ z. inl (omega arith)) (λ z. inr (omega arith)) (o .1 .0), tt));
     } in
-    let still-u : Still u t = still-then {u = v} (rw ev (still-all u at ps (omega arith) (λ z. omega arith))) (rw et (still-setWord v 12 (m + 1) (omega arith) (λ z. omega arith))) in
-    let still : Still s t = still-then {u = u} (put .still) still-u in
+    let still : Still s t = still-then {u = u} (put .still) (lost .still) in
     let dc : word t 8 ≡ n + 1 = after 8 (inl (omega arith)) (inl (omega arith)) ∙ put .count in
-    let lc : word t 12 ≡ m + 1 = rw et (word-setWord-same v 12 (m + 1) (omega arith) (omega arith)) in
+    let lc : word t 12 ≡ m + 1 = lost .count in
     let in-diagnostics : Same u t diagnosticsAt lostAt = λ j a b. after j (inr (omega arith)) (inl (omega arith)) in
     let key-is : word t (diagnosticsAt + 28 * n) ≡ key = in-diagnostics (diagnosticsAt + 28 * n) (omega arith) (omega arith) ∙ put .key-is in
-    let d-own : diagnosticIn t n ≡ duplicate (textIn s given) (pointerOf first) second = rw (held .same) at (diagnostic-own s t (pointerOf first) second key n still
+    let d-own : diagnosticIn t n ≡ duplicate (textIn s given) first second = rw (held .same) at (diagnostic-own s t first second key n still
     (in-diagnostics (diagnosticsAt + 28 * n) (omega arith) (omega arith) ∙ put .key-is)
     (pointer-same u t (diagnosticsAt + 28 * n + 4) (λ j a b. in-diagnostics j (omega arith) (omega arith)) ∙ put .first-is)
     (pointer-same u t (diagnosticsAt + 28 * n + 16) (λ j a b. in-diagnostics j (omega arith) (omega arith)) ∙ put .second-is)) in
     let above : Same s t diagnosticsAt (diagnosticsAt + 28 * n) = λ j a b. in-diagnostics j (omega arith) (omega arith) ∙ put .wrote .other j (inr (omega arith), (inl (omega arith), tt)) in
-    let ds = diagnostics-more s t n (duplicate (textIn s given) (pointerOf first) second) en few dc still (λ j a b. in-diagnostics j (omega arith) (omega arith) ∙ put .wrote .other j (inr (omega arith), (inl (omega arith), tt))) d-own in
-    let l-own : pointerAt t (lostAt + 12 * m) ≡ pointerOf first = pointer-same v t (lostAt + 12 * m) (λ j a b. rw et (word-setWord-other v 12 (m + 1) j (inr (omega arith)))) ∙ pointer-put u v at (lostAt + 12 * m) first ea (omega arith) hp ev in
-    let ls = lost-more s t m (pointerOf first) em fewer lc (λ j a b. after j (inr (omega arith)) (inl (omega arith)) ∙ put .wrote .other j (inr (omega arith), (inr (omega arith), tt))) l-own in
+    let ds = diagnostics-more s t n (duplicate (textIn s given) first second) en few dc still (λ j a b. in-diagnostics j (omega arith) (omega arith) ∙ put .wrote .other j (inr (omega arith), (inl (omega arith), tt))) d-own in
+    let ls = lost-more s t m first em fewer lc (λ j a b. after j (inr (omega arith)) (inl (omega arith)) ∙ put .wrote .other j (inr (omega arith), (inr (omega arith), tt))) (lost .is) in
     let r1 : ltb (length (diagnosticsOf s)) diagnosticLimit ≡ true = lt-ltb (length (diagnosticsOf s)) diagnosticLimit (omega (arith, length-diagnostics s, cap-le (word s diagnosticCount) diagnosticLimit (omega arith))) in
     let r2 : ltb (length (lostOf s)) diagnosticLimit ≡ true = lt-ltb (length (lostOf s)) diagnosticLimit (omega (arith, length-lost s, cap-le (word s lostCount) diagnosticLimit (omega arith))) in
     record {

@@ -11,7 +11,7 @@ use Rattle.spec.specs.Module.{Pointer, Made, NameKind, Name, DuplicateKey}
 use Rattle.spec.specs.Steps.{Step}
 use Rattle.spec.specs.State.{State, state, empty, newMade, addDuplicate}
 use Rattle.store.specs.declared.codes.Row.{Row}
-use Rattle.layout.specs.Layout.{exprCount, entryPlace, scopeCount, spentPlace, textsPlace, scopesAt, firstsAt, diagnosticCount, diagnosticsAt, exprsAt, exprPointersAt, itemsAt, waitingAt, sheetAt, waitingCount, exprLimit, nameLimit, diagnosticLimit, itemLimit, waitingLimit}
+use Rattle.layout.specs.Layout.{exprCount, entryPlace, scopeCount, spentPlace, textsPlace, scopesAt, firstsAt, diagnosticCount, diagnosticsAt, lostCount, lostAt, exprsAt, exprPointersAt, itemsAt, waitingAt, sheetAt, waitingCount, exprLimit, nameLimit, diagnosticLimit, itemLimit, waitingLimit}
 use Rattle.layout.specs.Rows.{cap}
 use Rattle.layout.specs.Changes.{Range, Wrote, Still}
 use Rattle.layout.specs.Exprs.{Item, child, text, field, static, dynamic, itemAt, itemIn, firstItem, sortOf, pointerAt}
@@ -143,6 +143,13 @@ pub record PutDiagnostic (n key : ℕ) (first second : Pointer) (s t : List ℕ)
   pub key-is : word t (diagnosticsAt + 28 * n) ≡ key
   pub first-is : pointerAt t (diagnosticsAt + 28 * n + 4) ≡ first
   pub second-is : pointerAt t (diagnosticsAt + 28 * n + 16) ≡ second
+
+-- the row n of the lost list
+pub record PutLost (n : ℕ) (p : Pointer) (s t : List ℕ) : Type 0 where
+  pub wrote : Wrote ((12, 16) ∷ (lostAt + 12 * n, lostAt + 12 * n + 12) ∷ []) s t
+  pub still : Still s t
+  pub count : word t lostCount ≡ n + 1
+  pub is : pointerAt t (lostAt + 12 * n) ≡ p
 
 -- ---- a store with nothing in it
 unfoldable pub noWork : Work

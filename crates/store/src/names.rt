@@ -7,17 +7,17 @@ ghost use Rattle.module.specs.Kinds.{kindOf};
 ghost use Rattle.layout.specs.Layout.{Long};
 ghost use Rattle.layout.specs.Texts.{textIn};
 ghost use Rattle.soundness.specs.Sound.{textFits};
-ghost use Rattle.store.specs.Work.{Did, putName, putDuplicate, nameWith, PutDiagnostic};
+ghost use Rattle.store.specs.Work.{Did, putName, putDuplicate, nameWith, PutDiagnostic, PutLost};
 use crate::held::held_text;
 use layout::counter;
 use layout::put_pointer;
 use layout::put_two;
 use layout::wide;
+use module::Counter;
 use module::NameId;
 use module::NameKind;
 use module::Pointer;
 use module::TextId;
-use words::get32;
 use words::put32;
 
 const NAMES: usize = 917588;
@@ -56,15 +56,26 @@ pub fn alloc_name(store: &mut [u8], text: TextId, kind: NameKind, p: Pointer) ->
 }
 
 // The row of a diagnostic: its key and both pointers.
-fn put_diagnostic(store: &mut [u8], n: u32, key: u32, first: Pointer, second: Pointer)
-    requires { ⌜ Long (now store) × (n < 32768) ⌝ }
-    ensures { λ _. ⌜ PutDiagnostic n key (pointerOf first) (pointerOf second) (now (store .entry)) (now (store .exit)) ⌝ }
+fn put_diagnostic(store: &mut [u8], count: Counter, key: u32, first: Pointer, second: Pointer)
+    requires { ⌜ Long (now store) × (count .used < 32768) ⌝ }
+    ensures { λ _. ⌜ PutDiagnostic (count .used) key (pointerOf first) (pointerOf second) (now (store .entry)) (now (store .exit)) ⌝ }
 {
-    let at = DIAGNOSTICS + 28 * wide(n);
+    let next = count.next();
+    let at = DIAGNOSTICS + 28 * wide(count.used);
     put32(store, at, key);
     put_pointer(store, at + 4, first);
     put_pointer(store, at + 16, second);
-    put32(store, 8, n + 1);
+    put32(store, 8, next.used);
+}
+
+// One pointer more in the lost list.
+fn put_lost(store: &mut [u8], count: Counter, p: Pointer)
+    requires { ⌜ Long (now store) × (count .used < 32768) ⌝ }
+    ensures { λ _. ⌜ PutLost (count .used) (pointerOf p) (now (store .entry)) (now (store .exit)) ⌝ }
+{
+    let next = count.next();
+    put_pointer(store, LOST + 12 * wide(count.used), p);
+    put32(store, 12, next.used);
 }
 
 // LowerDiagnostic::DuplicateKey, and its first pointer in the lost list.
@@ -72,14 +83,13 @@ pub fn add_duplicate(store: &mut [u8], key: TextId, first: Pointer, second: Poin
     requires { ⌜ Long (now store) ⌝ }
     ensures { λ _. ⌜ Did (putDuplicate (textIn (now (store .entry)) (key .0)) (pointerOf first) (pointerOf second)) (now (store .entry)) tt (now (store .exit)) ⌝ }
 {
-    let n = get32(store, 8);
-    let m = get32(store, 12);
-    if n < 32768 {
-        if m < 32768 {
+    let count = counter(store, 8);
+    let lost = counter(store, 12);
+    if count.has_room(32768) {
+        if lost.has_room(32768) {
             let held = held_text(store, key.0);
-            put_diagnostic(store, n, held, first, second);
-            put_pointer(store, LOST + 12 * wide(m), first);
-            put32(store, 12, m + 1);
+            put_diagnostic(store, count, held, first, second);
+            put_lost(store, lost, first);
         }
     }
 }

@@ -36,14 +36,14 @@ fn same_pointer(store: &[u8], at: usize, p: Pointer) -> bool
 }
 
 // Whether the expression n has the pointer p. Of sort 0 there is none, whatever its row of pointers holds.
-fn expr_points(store: &[u8], n: u32, p: Pointer) -> bool
-    requires { ⌜ Long (now store) × (n < 16384) ⌝ }
-    ensures { λ r. ⌜ r ≡ pointsTo (pointerOf p) (madeIn (now (store .entry)) n .pointer) ⌝ }
+fn expr_points(store: &[u8], n: ExprId, p: Pointer) -> bool
+    requires { ⌜ Long (now store) × (n .0 < 16384) ⌝ }
+    ensures { λ r. ⌜ r ≡ pointsTo (pointerOf p) (madeIn (now (store .entry)) (n .0) .pointer) ⌝ }
 {
-    if get32(store, EXPRS + 20 * wide(n) + 4) == 0 {
+    if get32(store, EXPRS + 20 * wide(n.0) + 4) == 0 {
         return false;
     }
-    same_pointer(store, EXPR_POINTERS + 12 * wide(n), p)
+    same_pointer(store, EXPR_POINTERS + 12 * wide(n.0), p)
 }
 
 pub fn expr_for_node(store: &[u8], p: Pointer) -> MaybeExpr
@@ -53,7 +53,7 @@ pub fn expr_for_node(store: &[u8], p: Pointer) -> MaybeExpr
     let mut n = expr_count(store);
     while 0 < n {
         n -= 1;
-        if expr_points(store, n, p) {
+        if expr_points(store, ExprId(n), p) {
             return MaybeExpr::Expr(ExprId(n));
         }
     }

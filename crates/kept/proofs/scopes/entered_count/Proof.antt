@@ -1,6 +1,7 @@
 -- `kept::scopes::entered_count` meets its contract. Written by a script from tools/answers_kept.txt. Assumes nothing.
 use mathlib.Core.Path.{sym, _∙_}
 use mathlib.Core.Path.{sym, _∙_}
+use mathlib.Core.Path.{sym, _∙_}
 use native.Mathlib.Omega.{arith}
 use mathlib.Core.Path.{sym, _∙_}
 use borrow.Author.Needs.{needs}

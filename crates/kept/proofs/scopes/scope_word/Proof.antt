@@ -25,13 +25,13 @@ add-get32-2 : tie.Need-add-get32-2
 add-get32-2 c = search needs
 
 get32-requires : tie.Need-get32-requires
-get32-requires c κs = omega (arith, c .wide .ensures, cap-lim (word (c .before .before .before .before .args .store .now) 20) 4096)
+get32-requires c κs = omega (arith, c .wide .ensures, cap-lim (word (c .before .before .before .before .before .args .store .now) 20) 4096)
 
 returns : tie.Need-returns
-returns c = c .get32 .ensures ∙ ap (λ n. word (c .before .before .before .before .before .args .store .now) (2441300 + 12 * n + c .before .before .before .before .before .args .k)) (c .before .wide .ensures) ∙ sym (word-in _ _ _ (below-cap _ _ _ (c .before .before .before .in-use .ensures) (c .before .before .if1 .taken)))
+returns c = c .get32 .ensures ∙ ap (λ n. word (c .before .before .before .before .before .before .args .store .now) (2441300 + 12 * n + c .before .before .before .before .before .before .args .k)) (c .before .wide .ensures) ∙ sym (word-in _ _ _ (below-cap _ _ _ (c .before .before .before .before .in-use .ensures) (c .before .before .if1 .taken)))
 
 returns-2 : tie.Need-returns-2
-returns-2 c = sym (word-out _ _ _ (above-cap _ _ _ (c .before .in-use .ensures) (c .if1 .left)))
+returns-2 c = sym (word-out _ _ _ (above-cap _ _ _ (c .before .before .in-use .ensures) (c .if1 .left)))
 
 pub scope-word-spec : {M : Type 1} → statement M
 scope-word-spec =

@@ -1,9 +1,13 @@
 -- `merging::add::insert_number` meets its contract. Written by a script from tools/answers_merging.txt. Assumes nothing.
+use mathlib.Core.Path.{_∙_}
 use native.Mathlib.Omega.{arith}
 use borrow.Author.Needs.{needs}
 use Rattle.merging.proofs.RunAdds.{number-inserted}
 use Rattle.merging.proofs.add.insert_number.Statement.{statement}
 use Rattle.merging.proofs.add.insert_number.Tie as tie
+
+next-requires : tie.Need-next-requires
+next-requires c κs = omega (arith, c .before .pre .1 .1)
 
 wide-requires : tie.Need-wide-requires
 wide-requires c κs = search needs
@@ -32,9 +36,6 @@ move-run-requires c κs = search needs
 put32-requires : tie.Need-put32-requires
 put32-requires c κs = search needs
 
-add-put32 : tie.Need-add-put32
-add-put32 c = search needs
-
 put32-requires-2 : tie.Need-put32-requires-2
 put32-requires-2 c κs = search needs
 
@@ -42,12 +43,13 @@ same-length : tie.Need-same-length
 same-length c = search needs
 
 returns : tie.Need-returns
-returns c = number-inserted _ _ _ _ _ _ _ _ (c .before .before .before .before .before .before .before .before .before .before .before .before .before .before .before .pre .0) (c .before .before .before .before .before .before .before .before .before .before .before .before .before .before .before .pre .1 .0) (c .before .before .before .before .before .before .before .before .before .before .before .before .before .before .before .pre .1 .1) (omega arith) (omega arith) (c .before .before .before .before .before .before .before .before .before .before .move-run .ensures) (c .before .before .before .before .before .before .put32 .ensures) (c .before .before .put322 .ensures)
+returns c = number-inserted _ _ _ _ _ _ _ _ (c .before .before .before .before .before .before .before .before .before .before .before .before .before .before .before .before .before .pre .0) (c .before .before .before .before .before .before .before .before .before .before .before .before .before .before .before .before .before .pre .1 .0) (c .before .before .before .before .before .before .before .before .before .before .before .before .before .before .before .before .before .pre .1 .1) (omega arith) (omega arith) (c .before .before .before .before .before .before .before .before .before .before .move-run .ensures) (c .before .before .before .before .before .before .put32 .ensures) (c .before .before .put322 .ensures ∙ rw (c .before .before .before .before .before .before .before .before .before .before .before .before .before .before .before .next .ensures))
 
 pub insert-number-spec : {M : Type 1} → statement M
 insert-number-spec =
     tie.close
     (tie.spec
+    next-requires
     wide-requires
     mul-at
     add-at
@@ -57,7 +59,6 @@ insert-number-spec =
     mul-move-run
     move-run-requires
     put32-requires
-    add-put32
     put32-requires-2
     same-length
     returns)

@@ -6,6 +6,9 @@ use Rattle.soundness.proofs.SoundRowLaws.{fields-fail, fields-pass, nex
 use Rattle.soundness.proofs.exprs.row_fits.Statement.{statement}
 use Rattle.soundness.proofs.exprs.row_fits.Tie as tie
 
+cast-at : tie.Need-cast-at
+cast-at c = search needs
+
 mul-at : tie.Need-mul-at
 mul-at c = search needs
 
@@ -52,7 +55,7 @@ get32-requires-6 : tie.Need-get32-requires-6
 get32-requires-6 c κs = search needs
 
 items-fit-requires : tie.Need-items-fit-requires
-items-fit-requires c κs = (c .before .before .before .before .before .before .before .before .before .pre .0, items-within _ _ _ (c .before .before .before .before .before .before .before .before .before .pre .1 .1) (c .before .before .before .before .before .before .before .before .before .pre .1 .0) _ (next-first _ _ _ (c .get326 .ensures)))
+items-fit-requires c κs = (c .before .before .before .before .before .before .before .before .before .before .pre .0, items-within _ _ _ (c .before .before .before .before .before .before .before .before .before .before .pre .1 .1) (c .before .before .before .before .before .before .before .before .before .before .pre .1 .0) _ (next-first _ _ _ (c .get326 .ensures)))
 
 returns-2 : tie.Need-returns-2
 returns-2 c = fields-pass _ _ _ _ _ _ (c .before .before .before .before .before .before .before .before .get32 .ensures) (c .before .before .before .before .before .before .before .get322 .ensures) (c .before .before .before .before .before .before .get323 .ensures) (c .before .before .before .before .before .get324 .ensures) _ (c .before .before .before .before .fields-fit .ensures) (not-false _ (c .before .before .before .if1 .left)) _ _ (c .before .before .get325 .ensures) (c .before .get326 .ensures) _ (c .items-fit .ensures)
@@ -61,6 +64,7 @@ pub row-fits-spec : {M : Type 1} → statement M
 row-fits-spec =
     tie.close
     (tie.spec
+    cast-at
     mul-at
     add-at
     add-get32

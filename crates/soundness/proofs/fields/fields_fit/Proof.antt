@@ -24,13 +24,13 @@ returns-2 : tie.Need-returns-2
 returns-2 c = no-fields-2 _ _ _ _ _ _ (c .match .keys2)
 
 returns-3 : tie.Need-returns-3
-returns-3 c = two-children _ _ _ _ _ _ (c .match .keys3)
+returns-3 c = two-children _ _ _ _ _ _ (c .before .before .match .keys3)
 
 returns-4 : tie.Need-returns-4
-returns-4 c = two-children-2 _ _ _ _ _ _ (c .match .keys4)
+returns-4 c = two-children-2 _ _ _ _ _ _ (c .before .before .match .keys4)
 
 returns-5 : tie.Need-returns-5
-returns-5 c = three-children _ _ _ _ _ _ (c .match .keys5)
+returns-5 c = three-children _ _ _ _ _ _ (c .before .before .before .match .keys5)
 
 returns-6 : tie.Need-returns-6
 returns-6 c = c .wide-within .ensures ∙ float-bits _ _ _ _ _ _ (c .before .match .keys6)
@@ -45,16 +45,16 @@ returns-9 : tie.Need-returns-9
 returns-9 c = c .text-fits2 .ensures ∙ one-text-2 _ _ _ _ _ _ (c .before .match .keys9)
 
 returns-10 : tie.Need-returns-10
-returns-10 c = one-child _ _ _ _ _ _ (c .match .keys10)
+returns-10 c = one-child _ _ _ _ _ _ (c .before .match .keys10)
 
 returns-11 : tie.Need-returns-11
-returns-11 c = child-and-name _ _ _ _ _ _ _ (c .before .before .before .pre .taken .names) (c .before .match .keys11)
+returns-11 c = child-and-name _ _ _ _ _ _ _ (c .before .before .before .before .pre .taken .names) (c .before .before .match .keys11)
 
 returns-12 : tie.Need-returns-12
-returns-12 c = binary _ _ _ _ _ _ (c .match .keys12)
+returns-12 c = binary _ _ _ _ _ _ (c .before .before .match .keys12)
 
 returns-13 : tie.Need-returns-13
-returns-13 c = unary _ _ _ _ _ _ (c .match .keys13)
+returns-13 c = unary _ _ _ _ _ _ (c .before .match .keys13)
 
 returns-14 : tie.Need-returns-14
 returns-14 c = other-sorts _ _ _ _ _ _ (c .match .rest)

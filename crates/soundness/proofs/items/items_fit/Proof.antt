@@ -10,7 +10,7 @@ use Rattle.soundness.proofs.items.items_fit.Statement.{statement}
 use Rattle.soundness.proofs.items.items_fit.Tie as tie
 
 abbrev Inv-loop : tie.InvT-loop
-Inv-loop store counts e sort from to j₀ j = (from ≤ j) × (allFrom (itemFits store e sort) from j ≡ true)
+Inv-loop store counts e sort from to j₀ j = (from ≤ j) × (allFrom (itemFits store (e .0) sort) from j ≡ true)
 
 abbrev μ-loop : tie.MeasureT-loop
 μ-loop store counts e sort from to j₀ j = to - j

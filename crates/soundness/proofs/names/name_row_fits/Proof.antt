@@ -4,6 +4,9 @@ use Rattle.soundness.specs.Sound.{nameRowFits}
 use Rattle.soundness.proofs.names.name_row_fits.Statement.{statement}
 use Rattle.soundness.proofs.names.name_row_fits.Tie as tie
 
+cast-at : tie.Need-cast-at
+cast-at c = search needs
+
 mul-at : tie.Need-mul-at
 mul-at c = search needs
 
@@ -29,4 +32,4 @@ returns c = rw (c .text-fits .ensures, c .before .before .get32 .ensures, c .bef
 pub name-row-fits-spec : {M : Type 1} → statement M
 name-row-fits-spec =
     tie.close
-    (tie.spec mul-at add-at add-get32 get32-requires get32-requires-2 text-fits-requires returns)
+    (tie.spec cast-at mul-at add-at add-get32 get32-requires get32-requires-2 text-fits-requires returns)

@@ -4,6 +4,9 @@ use Rattle.soundness.specs.Sound.{useFits}
 use Rattle.soundness.proofs.uses.use_fits.Statement.{statement}
 use Rattle.soundness.proofs.uses.use_fits.Tie as tie
 
+cast-at : tie.Need-cast-at
+cast-at c = search needs
+
 mul-at : tie.Need-mul-at
 mul-at c = search needs
 
@@ -24,8 +27,8 @@ add-result c = search needs
 
 returns : tie.Need-returns
 unfolding useFits
-returns c = rw (c .before .before .before .get32 .ensures, c .before .get322 .ensures, c .before .before .before .before .before .pre .0 .taken .scopes, c .before .before .before .before .before .pre .0 .taken .names)
+returns c = rw (c .before .before .before .get32 .ensures, c .before .get322 .ensures, c .before .before .before .before .before .before .pre .0 .taken .scopes, c .before .before .before .before .before .before .pre .0 .taken .names)
 
 pub use-fits-spec : {M : Type 1} → statement M
 use-fits-spec =
-    tie.close (tie.spec mul-at add-at get32-requires add-get32 get32-requires-2 add-result returns)
+    tie.close (tie.spec cast-at mul-at add-at get32-requires add-get32 get32-requires-2 add-result returns)

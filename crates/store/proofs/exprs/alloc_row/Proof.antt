@@ -2,6 +2,8 @@
 use mathlib.Core.Path.{_∙_}
 use native.Mathlib.Omega.{arith}
 use borrow.Author.Needs.{needs}
+use Rattle.module.proofs.CounterLaws.{room-left, room-gone}
+use Rattle.module.proofs.CounterLaws.{room-left, room-gone}
 use Rattle.store.proofs.ExprLaws.{did-where, row-full, row-crowded, row-allocated}
 use Rattle.module.proofs.CounterLaws.{room-left, room-gone}
 use Rattle.module.proofs.CounterLaws.{room-left, room-gone}
