@@ -1,5 +1,5 @@
 -- The flag of every node of an accepted sheet is at most the highest of its kind. Assumes nothing.
-use mathlib.Core.Path.{_≡_, refl, ap, _∙_}
+use mathlib.Core.Path.{_≡_, ap}
 use mathlib.Core.List.{List}
 use Prim.Native.Nat.{ℕ, zero, suc, _≤_}
 use native.Mathlib.Omega.{arith}
@@ -7,10 +7,10 @@ use lib.ListN.{getD}
 use Rattle.spec.specs.Basics.{NodeId}
 use Rattle.spec.specs.Kinds.{kinds, kindOf}
 use Rattle.spec.specs.Keys.{kind, flag}
-use Rattle.spec.specs.Sheet.{Node, wrongFlag, Got, got, bad, _>>=_, give, node, Judged, accepted, refused, readSheet}
-use Rattle.spec.specs.Tree.{nobody, nodeAt, judgeTree, judge}
+use Rattle.spec.specs.Sheet.{Node, wrongFlag, Got, got, bad, _>>=_, give, node, accepted}
+use Rattle.spec.specs.Tree.{nobody, nodeAt, judge}
 use Rattle.spec.proofs.Lines.{read, number-within}
-use Rattle.spec.proofs.SheetRoom.{judged-same}
+use Rattle.spec.proofs.SheetRoom.{accepted-read}
 use Rattle.spec.proofs.Reading.{Reads, none-left, one-more, accepted-sheet}
 
 abbrev Flagged : Node → Type 0
@@ -41,11 +41,5 @@ reads-flagged (one-more i at place end m ns e r) (suc n) = reads-flagged r n
 
 -- THEOREM. Each flag is within its kind's rule.
 pub flags-held : (s : List ℕ) (nodes : List Node) → judge s ≡ accepted nodes → (n : NodeId) → flag nodes n ≤ kindOf (kind nodes n) .flags
-unfolding judge judgeTree kind flag nodeAt
-flags-held s nodes e n = go (readSheet s) refl e
-  where
-    go : (j : Judged) → readSheet s ≡ j → judgeTree j ≡ accepted nodes → Flagged (getD nodes n nobody)
-    go (accepted ns) i e =
-        let r : readSheet s ≡ accepted nodes = i ∙ ap accepted (judged-same ns nodes e) in
-        reads-flagged (accepted-sheet s nodes r .nodes) n
-    go (refused number place) i e = let z : _≡_ {A = ℕ} 0 1 = cc in absurd (omega arith)
+unfolding kind flag nodeAt
+flags-held s nodes e n = reads-flagged (accepted-sheet s nodes (accepted-read s nodes e) .nodes) n

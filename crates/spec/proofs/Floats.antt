@@ -1,5 +1,5 @@
 -- What the text of a Float is: that of an accepted sheet's Float with flag 1 says at most 7ff0000000000000 hex. Assumes nothing.
-use mathlib.Core.Path.{_≡_, refl, ap, _∙_}
+use mathlib.Core.Path.{_≡_, refl, ap}
 use mathlib.Core.Bool.{true}
 use mathlib.Core.List.{List}
 use Prim.Native.Nat.{ℕ, zero, suc, _≤_}
@@ -9,12 +9,12 @@ use lib.Dec.{eqb, leb}
 use borrow.Author.Tests.{eqb-true, leb-true}
 use Rattle.spec.specs.Basics.{Text, NodeId}
 use Rattle.spec.specs.Kinds.{kinds, kindOf}
-use Rattle.spec.specs.Sheet.{Node, wrongText, Got, got, bad, _>>=_, give, hex, bitsFrom, isFloat, isEmpty, textFits, node, Judged, accepted, refused, readSheet}
-use Rattle.spec.specs.Tree.{nobody, nodeAt, judgeTree, judge}
+use Rattle.spec.specs.Sheet.{Node, wrongText, Got, got, bad, _>>=_, give, hex, bitsFrom, isFloat, isEmpty, textFits, node, accepted}
+use Rattle.spec.specs.Tree.{nobody, nodeAt, judge}
 use Rattle.spec.specs.Keys.{kind, flag, text}
 use Rattle.spec.proofs.Subtrees.{and-true}
 use Rattle.spec.proofs.Lines.{read, field-line}
-use Rattle.spec.proofs.SheetRoom.{judged-same}
+use Rattle.spec.proofs.SheetRoom.{accepted-read}
 use Rattle.spec.proofs.Reading.{Reads, none-left, one-more, accepted-sheet}
 
 -- the text of a node fits its kind and its flag
@@ -55,11 +55,5 @@ float-fits k f t p q h =
 -- THEOREM. The number that the text of a Float with flag 1 says is at most 7ff0000000000000 hex, the bits of infinity.
 pub floats-held : (s : List ℕ) (nodes : List Node) → judge s ≡ accepted nodes
     → (n : NodeId) → eqb (kind nodes n) 8 ≡ true → flag nodes n ≡ 1 → bitsFrom 0 (text nodes n) ≤ 9218868437227405312
-unfolding judge judgeTree kind flag text nodeAt
-floats-held s nodes e n p q = go (readSheet s) refl e
-  where
-    go : (j : Judged) → readSheet s ≡ j → judgeTree j ≡ accepted nodes → bitsFrom 0 (text nodes n) ≤ 9218868437227405312
-    go (accepted ns) i e =
-        let r : readSheet s ≡ accepted nodes = i ∙ ap accepted (judged-same ns nodes e) in
-        float-fits (kind nodes n) (flag nodes n) (text nodes n) (eqb-true (kind nodes n) 8 p) q (reads-fit (accepted-sheet s nodes r .nodes) n)
-    go (refused number place) i e = let z : _≡_ {A = ℕ} 0 1 = cc in absurd (omega arith)
+unfolding kind flag text nodeAt
+floats-held s nodes e n p q = float-fits (kind nodes n) (flag nodes n) (text nodes n) (eqb-true (kind nodes n) 8 p) q (reads-fit (accepted-sheet s nodes (accepted-read s nodes e) .nodes) n)

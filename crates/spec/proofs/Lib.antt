@@ -52,3 +52,4 @@ pub mod Sizes
 pub mod Standing
 pub mod Above
 pub mod Loads
+pub mod Refusals

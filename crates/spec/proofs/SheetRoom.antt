@@ -94,6 +94,15 @@ judged-same ns nodes e = go (walkTo ns 255 0) e
     go (met h) e = all (eqb (h + 1) (length ns)) (h + 1) e
     go (stopped number place) e = let z : _≡_ {A = ℕ} 0 1 = cc in absurd (omega arith)
 
+-- and an accepted sheet's lines were accepted
+pub accepted-read : (s : List ℕ) (nodes : List Node) → judge s ≡ accepted nodes → readSheet s ≡ accepted nodes
+unfolding judge judgeTree
+accepted-read s nodes e = go (readSheet s) refl e
+  where
+    go : (j : Judged) → readSheet s ≡ j → judgeTree j ≡ accepted nodes → readSheet s ≡ accepted nodes
+    go (accepted ns) i e = i ∙ ap accepted (judged-same ns nodes e)
+    go (refused number place) i e = let z : _≡_ {A = ℕ} 0 1 = cc in absurd (omega arith)
+
 -- "Four expressions, one name and one scope per node always suffice, so an accepted sheet never runs out."
 pub record SheetRoom (nodes : List Node) : Type 1 where
   pub few : length nodes ≤ 4096

@@ -109,3 +109,40 @@ word-setWord-other s at v j h = word-splice-other s at (bytesOf 4 v) j (rw (leng
 pub getD-setWord-other : (s : List ℕ) (at v j : ℕ) → (j < at) ⊎ (at + 4 ≤ j) → getD (setWord s at v) j 0 ≡ getD s j 0
 unfolding setWord
 getD-setWord-other s at v j h = getD-splice-other s at (bytesOf 4 v) j (rw (length-bytesOf 4 v) h)
+
+-- ---- a number that is cut to a word
+same-bytes : (v w : ℕ) → v % 256 ≡ w % 256 → v / 256 % 256 ≡ w / 256 % 256 → v / 256 / 256 % 256 ≡ w / 256 / 256 % 256 → v / 256 / 256 / 256 % 256 ≡ w / 256 / 256 / 256 % 256 → bytesOf 4 v ≡ bytesOf 4 w
+unfolding bytesOf
+same-bytes v w a b c d = rw (a, b, c, d)
+
+-- what is cut off lies above the lowest byte
+low : (v : ℕ) → v % 4294967296 % 256 ≡ v % 256
+low v = omega arith
+
+low-3 : (v : ℕ) → v % 16777216 % 256 ≡ v % 256
+low-3 v = omega arith
+
+low-2 : (v : ℕ) → v % 65536 % 256 ≡ v % 256
+low-2 v = omega arith
+
+-- and the bytes above that are those of what is above it, cut likewise
+high : (v : ℕ) → v % 4294967296 / 256 ≡ v / 256 % 16777216
+high v = omega arith
+
+high-3 : (v : ℕ) → v % 16777216 / 256 ≡ v / 256 % 65536
+high-3 v = omega arith
+
+high-2 : (v : ℕ) → v % 65536 / 256 % 256 ≡ v / 256 % 256
+high-2 v = omega arith
+
+cut : (v : ℕ) → bytesOf 4 (v % 4294967296) ≡ bytesOf 4 v
+cut v =
+    same-bytes (v % 4294967296) v (low v)
+    (rw (high v) (low-3 (v / 256)))
+    (rw (high v, high-3 (v / 256)) (low-2 (v / 256 / 256)))
+    (rw (high v, high-3 (v / 256)) (high-2 (v / 256 / 256)))
+
+-- LAW. A word takes of a number what is left of it below 2 ^ 32.
+pub setWord-cut : (s : List ℕ) (at v : ℕ) → setWord s at (v % 4294967296) ≡ setWord s at v
+unfolding setWord
+setWord-cut s at v = rw (cut v)
