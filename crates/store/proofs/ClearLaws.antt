@@ -13,7 +13,7 @@ use Rattle.layout.specs.Rows.{cap, rowsTo, setAll}
 use Rattle.layout.specs.Changes.{Outside, Wrote}
 use Rattle.layout.specs.Exprs.{firstItem}
 use Rattle.layout.specs.States.{exprsOf, namesOf, diagnosticsOf, lostOf, setsOf, entriesOf, stateOf, waitingOf, usedOf, orderOf}
-use Rattle.store.specs.Work.{workOf, noWork, clearing, Fine, Cleared}
+use Rattle.store.specs.Work.{workOf, noWork, clearing, Fine, NoRows, Cleared}
 use Rattle.layout.proofs.RowLaws.{cap-le}
 use Rattle.layout.proofs.WriteLaws.{drop-setWord, drop-all, Small, length-all, all-other, all-at}
 use Rattle.store.proofs.CodedLaws.{all-coded}
@@ -36,21 +36,23 @@ zero-at : (s : List ℕ) (at i j : ℕ) → i < 5 → j ≡ at + 4 * i → at + 
 zero-at s at i j h q l = all-at s at zeros small (omega arith) i j h q ∙ zero-in i
 
 -- with no row in use
-work-none : (t : List ℕ) → word t 0 ≡ 0 → word t 4 ≡ 0 → word t 8 ≡ 0 → word t 12 ≡ 0 → word t 32 ≡ 0 → word t 36 ≡ 0 → word t 40 ≡ 0 → word t 64 ≡ 0 → workOf t ≡ noWork
+pub work-none : (t : List ℕ) → NoRows t → workOf t ≡ noWork
 unfolding workOf noWork stateOf exprsOf namesOf diagnosticsOf lostOf setsOf entriesOf waitingOf usedOf orderOf firstItem cap rowsTo
-work-none t a b c d e f g h = rw (a, b, c, d, e, f, g, h)
+work-none t z = rw (z .exprs, z .names, z .diagnostics, z .lost, z .waiting, z .sets, z .entries, z .first-item)
 
 none-below : {A : Type 0} {i n : ℕ} → n ≡ 0 → i < n → A
 none-below e h = absurd (omega arith)
 
-fine-none : (t : List ℕ) → word t 0 ≡ 0 → word t 4 ≡ 0 → word t 8 ≡ 0 → word t 12 ≡ 0 → word t 32 ≡ 0 → word t 64 ≡ 0 → Fine t
+pub fine-none : (t : List ℕ) → NoRows t → Fine t
 unfolding firstItem
-fine-none t a b c d f h =
+fine-none t z =
+    let a : word t 0 ≡ 0 = z .exprs in
+    let h : word t 64 ≡ 0 = z .first-item in
     all-coded
     (record { few = rw a (omega arith); begins = h; rises = λ e k. none-below a k; fewItems = rw (a, h) (omega arith); rows = λ e k. none-below a k; items = λ e j k l m. none-below a k })
-    (record { few = rw b (omega arith); rows = λ x k. none-below b k })
-    (record { few = rw c (omega arith); fewLost = rw d (omega arith); rows = λ i k. none-below c k })
-    (λ i k. none-below (rw f (cap-le 0 waitingLimit (omega arith))) k)
+    (record { few = rw (z .names) (omega arith); rows = λ x k. none-below (z .names) k })
+    (record { few = rw (z .diagnostics) (omega arith); fewLost = rw (z .lost) (omega arith); rows = λ i k. none-below (z .diagnostics) k })
+    (λ i k. none-below (rw (z .waiting) (cap-le 0 waitingLimit (omega arith))) k)
 
 pub cleared : (s a b c d e t : List ℕ) → Long s → a ≡ setAll s 0 zeros → b ≡ setAll a 20 zeros → c ≡ setWord b 40 0 → d ≡ setWord c 64 0 → e ≡ setWord d 2441300 0 → t ≡ setWord e 2506848 0 → Cleared s t
 unfolding Outside clearing
@@ -69,6 +71,17 @@ cleared s a b c d e t long ea eb ec ed ee et =
     let second : (i j : ℕ) → i < 5 → j ≡ 20 + 4 * i → word t j ≡ 0 = λ i j h q. low j (omega arith) ∙ rw ec (word-setWord-other b 40 0 j (inl (omega arith)) ∙ rw eb (zero-at a 20 i j h q (omega arith))) in
     let w40 : word t 40 ≡ 0 = low 40 (omega arith) ∙ rw ec (word-setWord-same b 40 0 (omega arith) (omega arith)) in
     let w64 : word t 64 ≡ 0 = rw et (word-setWord-other e 2506848 0 64 (inl (omega arith)) ∙ rw ee (word-setWord-other d 2441300 0 64 (inl (omega arith)) ∙ rw ed (word-setWord-same c 64 0 (omega arith) (omega arith)))) in
+    let none : NoRows t =
+    record {
+      exprs = first 0 0 (omega arith) (omega arith);
+      names = first 1 4 (omega arith) (omega arith);
+      diagnostics = first 2 8 (omega arith) (omega arith);
+      lost = first 3 12 (omega arith) (omega arith);
+      waiting = second 3 32 (omega arith) (omega arith);
+      sets = second 4 36 (omega arith) (omega arith);
+      entries = w40;
+      first-item = w64;
+    } in
     record {
       wrote = record {
         size = lt ∙ le ∙ ld ∙ lc ∙ lb ∙ la;
@@ -85,8 +98,9 @@ cleared s a b c d e t long ea eb ec ed ee et =
           ∙ (ap (drop sheetAt) ec ∙ drop-setWord b 40 0 sheetAt (omega arith))
           ∙ (ap (drop sheetAt) eb ∙ drop-all a 20 zeros sheetAt (omega arith))
           ∙ (ap (drop sheetAt) ea ∙ drop-all s 0 zeros sheetAt (omega arith));
-      work = work-none t (first 0 0 (omega arith) (omega arith)) (first 1 4 (omega arith) (omega arith)) (first 2 8 (omega arith) (omega arith)) (first 3 12 (omega arith) (omega arith)) (second 3 32 (omega arith) (omega arith)) (second 4 36 (omega arith) (omega arith)) w40 w64;
-      fine = fine-none t (first 0 0 (omega arith) (omega arith)) (first 1 4 (omega arith) (omega arith)) (first 2 8 (omega arith) (omega arith)) (first 3 12 (omega arith) (omega arith)) (second 3 32 (omega arith) (omega arith)) w64;
+      rows = none;
+      work = work-none t none;
+      fine = fine-none t none;
       entry = first 4 16 (omega arith) (omega arith);
       scopes = second 0 20 (omega arith) (omega arith);
       spent = second 1 24 (omega arith) (omega arith);

@@ -11,7 +11,7 @@ use Rattle.spec.specs.Module.{Pointer, Made, NameKind, Name, DuplicateKey}
 use Rattle.spec.specs.Steps.{Step}
 use Rattle.spec.specs.State.{State, state, empty, newMade, addDuplicate}
 use Rattle.store.specs.declared.codes.Row.{Row}
-use Rattle.layout.specs.Layout.{exprCount, entryPlace, scopeCount, spentPlace, textsPlace, scopesAt, firstsAt, diagnosticCount, diagnosticsAt, lostCount, lostAt, exprsAt, exprPointersAt, itemsAt, waitingAt, sheetAt, waitingCount, exprLimit, nameLimit, diagnosticLimit, itemLimit, waitingLimit}
+use Rattle.layout.specs.Layout.{exprCount, nameCount, entryPlace, scopeCount, spentPlace, textsPlace, scopesAt, firstsAt, diagnosticCount, lostCount, lostAt, diagnosticsAt, exprsAt, exprPointersAt, itemsAt, waitingAt, sheetAt, waitingCount, setCount, entryCount, exprLimit, nameLimit, diagnosticLimit, itemLimit, waitingLimit}
 use Rattle.layout.specs.Rows.{cap}
 use Rattle.layout.specs.Changes.{Range, Wrote, Still}
 use Rattle.layout.specs.Exprs.{Item, child, text, field, static, dynamic, itemAt, itemIn, firstItem, sortOf, pointerAt}
@@ -159,9 +159,21 @@ noWork = record { lowered = empty; waiting = []; used = 0; order = [] }
 unfoldable pub clearing : List Range
 clearing = (0, 44) ∷ (64, 68) ∷ (2441300, 2441304) ∷ (2506848, 2506852) ∷ []
 
+-- no row of lowering is in use: the counts are 0, and the list of the first expression begins at 0
+pub record NoRows (t : List ℕ) : Type 0 where
+  pub exprs : word t exprCount ≡ 0
+  pub names : word t nameCount ≡ 0
+  pub diagnostics : word t diagnosticCount ≡ 0
+  pub lost : word t lostCount ≡ 0
+  pub waiting : word t waitingCount ≡ 0
+  pub sets : word t setCount ≡ 0
+  pub entries : word t entryCount ≡ 0
+  pub first-item : word t exprsAt ≡ 0
+
 pub record Cleared (s t : List ℕ) : Type 0 where
   pub wrote : Wrote clearing s t
   pub same : drop sheetAt t ≡ drop sheetAt s
+  pub rows : NoRows t
   pub work : workOf t ≡ noWork
   pub fine : Fine t
   pub entry : word t entryPlace ≡ 0
