@@ -1,0 +1,54 @@
+-- `requests::change::change_reference` meets its contract. Written by a script from tools/answers_requests.txt. Assumes nothing.
+use mathlib.Core.Path.{refl}
+use borrow.Author.Needs.{needs}
+use Rattle.requests.proofs.StateLaws.{short-changed, state-changed, state-fit}
+use Rattle.spec.specs.Calls.{replyOf}
+use Rattle.requests.proofs.change.change_reference.Statement.{statement}
+use Rattle.requests.proofs.change.change_reference.Tie as tie
+
+returns : tie.Need-returns
+unfolding replyOf
+returns c = short-changed _ _ _ refl (c .if1 .taken)
+
+state-refusal-requires : tie.Need-state-refusal-requires
+state-refusal-requires c κs = search needs
+
+refuse-requires : tie.Need-refuse-requires
+refuse-requires c κs = search needs
+
+same-length : tie.Need-same-length
+same-length c = search needs
+
+same-length-2 : tie.Need-same-length-2
+same-length-2 c = search needs
+
+returns-2 : tie.Need-returns-2
+unfolding replyOf
+returns-2 c = state-changed _ _ _ _ _ _ refl (c .before .before .before .before .before .before .before .if1 .left) (c .before .before .before .before .before .state-refusal .ensures) (c .before .before .before .before .if2 .taken) (c .before .before .refuse .ensures)
+
+set-reference-requires : tie.Need-set-reference-requires
+set-reference-requires c κs = (state-fit _ _ (c .before .before .before .state-refusal .ensures) (c .before .before .if2 .left), c .before .before .before .before .before .if1 .left)
+
+same-length-3 : tie.Need-same-length-3
+same-length-3 c = search needs
+
+same-length-4 : tie.Need-same-length-4
+same-length-4 c = search needs
+
+returns-3 : tie.Need-returns-3
+returns-3 c = c .before .before .before .before .set-reference .ensures
+
+pub change-reference-spec : {M : Type 1} → statement M
+change-reference-spec =
+    tie.close
+    (tie.spec
+    returns
+    state-refusal-requires
+    refuse-requires
+    same-length
+    same-length-2
+    returns-2
+    set-reference-requires
+    same-length-3
+    same-length-4
+    returns-3)
