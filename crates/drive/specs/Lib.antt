@@ -1,3 +1,0 @@
-pub mod Drive
-pub mod Stores
-pub mod Names
