@@ -1,30 +1,34 @@
-//! Runs of the compiled Rattle code, through the static library of crates/drive: against the oracle's checker, the Rust's lowering and
-//! name resolution, against a reader and a check that were written from docs/STORE.md, and against the clock.
+//! Runs of the compiled Rattle code through the five calls that the product exports: against the oracle's checker, the Rust's lowering and
+//! name resolution and the oracle's book, against a reader and a check that were written from docs/STORE.md, on any bytes at all, and
+//! against the clock.
 
-mod compare;
-mod drive;
+mod any;
+mod calls;
+mod edged;
+mod exported;
 mod lending;
+mod loads;
 mod lower;
+mod making;
 mod nameres;
+mod sheets;
+mod slow;
 mod speed;
+mod stack;
 #[cfg(feature = "stand-in")]
 mod stand_in;
 mod store;
 
 use std::process::ExitCode;
 
-const USAGE: &str = "host judge DAMAGED VALID [SEED]     so many damaged and valid sheets, judged by both sides
-host speed                          nanoseconds for each byte of a sheet
-host store FILLS DAMAGED [SEED]     so many modules built in a store and read back, and so many damaged stores, judged by both sides
-host store-speed                    nanoseconds for each byte of a store that is checked
-host bring SHEETS [SEED]            so many sheets brought into a store and read back
-host lower COUNT MAXNODES [SEED]    so many random sheets of up to so many nodes, and those that need care, lowered by both sides
-host lower-speed                    microseconds for lowering, beside the Rust's
-host lower-stack                    bytes of stack that lowering the deepest sheets takes
-host nameres COUNT MAXNODES [SEED]  so many random sheets of up to so many nodes, and those that need care, resolved by both sides
-host changes LOADS CHANGES [SEED]   so many sheets loaded, and so many changes of text in all, each against the oracle's book
-host nameres-speed                  microseconds for scopes, answers and one change, beside the Rust's
-host nameres-stack                  bytes of stack that walking the deepest sheets takes";
+const USAGE: &str = "host sheets DAMAGED VALID [SEED]    so many damaged and valid sheets, loaded or refused as the oracle's checker says
+host loads COUNT MAXNODES [SEED]    so many random sheets of up to so many nodes, and those that need care, loaded and read back
+host calls LOADS CALLS [SEED]       so many sheets loaded, and so many calls in all, each against the oracle's book
+host stores FILLS DAMAGED [SEED]    so many modules built in a store, and so many damaged stores, judged by both sides
+host any CALLS [SEED]               so many calls on any bytes, between pages that can't be touched
+host slow                           stores and sheets that are built to be slow
+host speed                          microseconds for a load, an asking and a change, beside the Rust's; and for the check of a store
+host stack                          bytes of stack that loading the deepest sheets takes";
 
 fn main() -> ExitCode {
     let words: Vec<String> = std::env::args().skip(1).collect();
@@ -40,43 +44,26 @@ fn main() -> ExitCode {
 
 /// Runs a command; whether all was as it should be.
 fn run(words: &[&str]) -> Result<bool, String> {
-    let numbers = |from: usize| words[from..].iter().map(|word| number(word)).collect::<Result<Vec<u64>, _>>();
-    match words {
-        ["judge", _, _] | ["judge", _, _, _] => {
-            let numbers = numbers(1)?;
-            Ok(compare::run(numbers[0], numbers[1], numbers.get(2).copied().unwrap_or(0)))
-        }
-        ["speed"] => {
-            speed::run();
-            Ok(true)
-        }
-        ["store", _, _] | ["store", _, _, _] => {
-            let numbers = numbers(1)?;
-            Ok(store::runs::run(numbers[0], numbers[1], numbers.get(2).copied().unwrap_or(0)))
-        }
-        ["store-speed"] => store::speed::run().map(|()| true),
-        ["bring", _] | ["bring", _, _] => {
-            let numbers = numbers(1)?;
-            Ok(store::bring::run(numbers[0], numbers.get(1).copied().unwrap_or(0)))
-        }
-        ["lower", _, _] | ["lower", _, _, _] => {
-            let numbers = numbers(1)?;
-            let most = numbers[1].try_into().unwrap_or(usize::MAX);
-            lower::compare::run(numbers[0], most, numbers.get(2).copied().unwrap_or(0))
-        }
-        ["lower-speed"] => lower::speed::run().map(|()| true),
-        ["lower-stack"] => lower::stack::run().map(|()| true),
-        ["nameres", _, _] | ["nameres", _, _, _] => {
-            let numbers = numbers(1)?;
-            let most = numbers[1].try_into().unwrap_or(usize::MAX);
-            nameres::compare::run(numbers[0], most, numbers.get(2).copied().unwrap_or(0))
-        }
-        ["changes", _, _] | ["changes", _, _, _] => {
-            let numbers = numbers(1)?;
-            nameres::changes::run(numbers[0], numbers[1], numbers.get(2).copied().unwrap_or(0))
-        }
-        ["nameres-speed"] => nameres::speed::run().map(|()| true),
-        ["nameres-stack"] => nameres::stack::run().map(|()| true),
+    let (command, numbers) = words.split_first().ok_or(USAGE)?;
+    let numbers = numbers.iter().map(|word| number(word)).collect::<Result<Vec<u64>, _>>()?;
+    match (*command, numbers.as_slice()) {
+        ("sheets", [damaged, valid, seed @ ..]) => Ok(sheets::run(*damaged, *valid, first(seed)?)),
+        ("loads", [count, most, seed @ ..]) => loads::run(*count, usize::try_from(*most).unwrap_or(usize::MAX), first(seed)?),
+        ("calls", [loads, calls, seed @ ..]) => calls::run(*loads, *calls, first(seed)?),
+        ("stores", [fills, damaged, seed @ ..]) => Ok(store::runs::run(*fills, *damaged, first(seed)?)),
+        ("any", [calls, seed @ ..]) => any::run(*calls, first(seed)?),
+        ("slow", []) => slow::run().map(|()| true),
+        ("speed", []) => speed::run().map(|()| true),
+        ("stack", []) => stack::run().map(|()| true),
+        _ => Err(USAGE.to_string()),
+    }
+}
+
+/// The seed, 0 where none is given.
+fn first(seed: &[u64]) -> Result<u64, String> {
+    match seed {
+        [] => Ok(0),
+        [seed] => Ok(*seed),
         _ => Err(USAGE.to_string()),
     }
 }

@@ -1,23 +1,19 @@
-//! Lowering: the module that the compiled code leaves in a store against the one that the Rust's own `lower` makes of the same sheet.
+//! Lowering: what is lowered, and the module that the Rust's own `lower` makes of it.
 //!
-//! - `sheets`, `points`: what is lowered: random sheets, sheets at the limits, and small ones for the points that need care.
+//! - `sheets`, `points`: random sheets, sheets at the limits, and small ones for the points that need care.
 //! - `expected`: the Rust's module as a store would hold it.
-//! - `compare`, `speed`, `stack`: what the commands run.
 
-pub mod compare;
 pub mod expected;
 pub mod points;
 pub mod sheets;
-pub mod speed;
-pub mod stack;
 
-use crate::drive;
 use sheet::Node;
 
 /// A sheet that is longer than this is not printed; its name is enough to have it again.
 const PRINTED: usize = 1 << 16;
 
 /// A sheet and what it is called in a report.
+#[derive(Clone)]
 pub struct Named {
     pub name: String,
     pub nodes: Vec<Node>,
@@ -39,14 +35,5 @@ impl Named {
 pub fn assert_accepted(sheets: impl IntoIterator<Item = Named>) {
     for Named { name, nodes } in sheets {
         assert!(sheet::check::check(&sheet::write(&nodes)).is_ok_and(|read| read == nodes), "{name}");
-    }
-}
-
-/// A cleared store with the nodes in it.
-pub fn bring(store: &mut [u8], nodes: &[Node]) -> Result<(), String> {
-    drive::clear(store);
-    match drive::bring(&sheet::write(nodes), store) {
-        1 => Ok(()),
-        number => Err(format!("bringing the sheet returned {number} and not 1")),
     }
 }

@@ -1,7 +1,7 @@
 //! What the Rust says of a sheet, as a store holds it once the names are resolved, and whether a store holds it.
 
 use super::around;
-use crate::drive;
+use crate::exported;
 use crate::lower::expected as lowered;
 use crate::store::module::{Answer, Expr, Module, Scope, Scoped};
 use crate::store::page;
@@ -41,7 +41,7 @@ impl Right {
     }
 
     /// A text was put behind those in use; the empty one takes no bytes.
-    pub fn place(&mut self, text: &[u8]) {
+    fn place(&mut self, text: &[u8]) {
         let length = text.len() as u32;
         self.spent += length;
         self.texts += if length == 0 { 0 } else { 4 + length };
@@ -72,7 +72,7 @@ impl Right {
         same_module(&read, &self.module()?)?;
         self.lists_of_withs(&read)?;
         references_ascend(&read)?;
-        match drive::condition(store) {
+        match exported::condition(store) {
             0 => Ok(()),
             number => Err(format!("the store is refused with {number}")),
         }

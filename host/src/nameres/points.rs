@@ -4,7 +4,7 @@ use crate::lower::points::point;
 use crate::lower::{sheets, Named};
 use generate::names::BUILTINS;
 use generate::tree::Tree;
-use sheet::kind::LIST;
+use sheet::kind::{IDENT_PARAM, LAMBDA, LIST};
 
 /// What a sheet is about, and the sheet.
 const POINTS: &[(&str, &str)] = &[
@@ -65,10 +65,17 @@ const POINTS: &[(&str, &str)] = &[
     ),
 ];
 
-/// The points, and a sheet that uses every builtin and texts that are nearly one.
+/// The points, a sheet that uses every builtin and texts that are nearly one, and one whose texts are longer than any new text.
 pub fn points() -> Result<Vec<Named>, String> {
     let points = POINTS.iter().copied().map(point);
-    points.chain([Ok(builtins())]).collect()
+    points.chain([Ok(builtins()), Ok(long_texts())]).collect()
+}
+
+/// Some of the texts are longer than any that can be set.
+pub fn long_texts() -> Named {
+    let ident = |length| Tree::ident(&vec![b'l'; length]);
+    let uses = Tree::full(LIST, [255, 256, 300].map(ident).to_vec());
+    sheets::tree("texts of 255, 256 and 300 bytes", Tree::full(LAMBDA, vec![Tree::full(IDENT_PARAM, vec![ident(300)]), uses]))
 }
 
 fn builtins() -> Named {

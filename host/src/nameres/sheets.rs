@@ -38,7 +38,11 @@ fn other(number: usize, count: usize) -> usize {
 
 /// A list of uses that fills a sheet in which the rest, with the root and the list, takes so many nodes.
 fn uses(rest: usize, used: impl Fn(usize) -> usize) -> Tree {
-    Tree::full(LIST, (0..MAX_NODES - rest).map(|use_| ident(used(use_))).collect())
+    uses_of(rest, &text, used)
+}
+
+fn uses_of(rest: usize, text: &dyn Fn(usize) -> Vec<u8>, used: impl Fn(usize) -> usize) -> Tree {
+    Tree::full(LIST, (0..MAX_NODES - rest).map(|use_| Tree::ident(&text(used(use_)))).collect())
 }
 
 fn nested_lets(levels: usize, used: impl Fn(usize) -> usize) -> Tree {
@@ -62,16 +66,22 @@ fn rec_set(keys: usize) -> Tree {
     Tree::full(ATTR_SET, (0..keys).map(keyed).collect()).flagged(1)
 }
 
-fn inherit(names: usize) -> Tree {
-    Tree::new(INHERIT, std::iter::once(None).chain((0..names).map(|number| Some(ident(number)))).collect())
+fn inherit(names: usize, text: &dyn Fn(usize) -> Vec<u8>) -> Tree {
+    let names = (0..names).map(|number| Some(Tree::ident(&text(number))));
+    Tree::new(INHERIT, std::iter::once(None).chain(names).collect())
 }
 
 fn inheriting_set(names: usize) -> Tree {
-    Tree::full(ATTR_SET, vec![inherit(names)]).flagged(1)
+    Tree::full(ATTR_SET, vec![inherit(names, &text)]).flagged(1)
 }
 
 fn inheriting_let(names: usize, used: impl Fn(usize) -> usize) -> Tree {
-    Tree::full(LET_IN, vec![uses(names + 4, used), inherit(names)])
+    inheriting_let_of(names, &text, used)
+}
+
+/// A let of so many inherited names, and uses of them that fill the sheet; `text` gives the text of a number.
+pub fn inheriting_let_of(names: usize, text: &dyn Fn(usize) -> Vec<u8>, used: impl Fn(usize) -> usize) -> Tree {
+    Tree::full(LET_IN, vec![uses_of(names + 4, text, used), inherit(names, text)])
 }
 
 fn nested_withs(levels: usize) -> Tree {

@@ -1,215 +1,164 @@
-//! A module built in a store through the exported calls, with the numbers that they must return.
+//! A module written into a store, from docs/STORE.md alone and without any call.
 
-use super::encode::{self, Words};
-use super::layout::{get, header, put, LOST, NONE, TEXTS_UNSPENT, WAITING};
+use super::encode;
+use super::layout::{self, header, put, Table, NONE};
 use super::module::*;
-use crate::drive;
 use generate::Rng;
 use std::collections::HashMap;
 
-/// The error says which call returned something else than it must.
-pub type Built<T> = Result<T, String>;
+/// The texts of a store that is being built, and the numbers that they have there.
+pub struct Texts {
+    bytes: Vec<u8>,
+    numbers: HashMap<Vec<u8>, u32>,
+    /// Bytes that are left for texts that lie there a second time.
+    spare: usize,
+}
 
-/// Builds the module in a store that may hold anything, and fills in how many bytes of texts it took. The texts are those that it draws
-/// from. `stage` sees the store on the way.
-pub fn build(store: &mut [u8], module: &mut Module, texts: &[Vec<u8>], rng: &mut Rng, stage: &mut dyn FnMut(&[u8])) -> Built<()> {
-    drive::clear(store);
-    stage(store);
-    let spare = TEXTS_UNSPENT - texts.iter().map(|text| 4 + text.len()).sum::<usize>();
-    let mut build = Build { store, rng, numbers: HashMap::new(), spare, used: 0, lengths: 0, names: 0 };
-    build.exprs(module)?;
-    build.names(module, module.names.len())?;
-    build.diagnostics(module)?;
-    drive::entry(build.store, module.entry.unwrap_or(0));
-    stage(build.store);
-    build.scopes(module)?;
-    stage(build.store);
-    build.answers(module);
-    stage(build.store);
-    build.references(module);
-    stage(build.store);
-    build.by_hand(module)?;
-    module.texts = build.used;
-    Ok(())
+impl Texts {
+    /// None yet. Texts of so many bytes in all, with their lengths, are still to come, so that some may lie there twice.
+    pub fn new(to_come: usize) -> Self {
+        Texts { bytes: Vec::new(), numbers: HashMap::new(), spare: layout::TEXTS_UNSPENT - to_come }
+    }
+
+    /// Those of a sheet's nodes, one after the other, as a load puts them.
+    #[cfg(feature = "stand-in")]
+    pub fn of_nodes(nodes: &[sheet::Node]) -> Self {
+        let mut texts = Texts { bytes: Vec::new(), numbers: HashMap::new(), spare: 0 };
+        nodes.iter().for_each(|node| texts.place(&node.text));
+        texts
+    }
+
+    fn place(&mut self, text: &[u8]) {
+        self.numbers.insert(text.to_vec(), self.bytes.len() as u32);
+        self.bytes.extend((text.len() as u32).to_le_bytes());
+        self.bytes.extend(text);
+    }
+
+    /// The number of a text: of the place where it lies already, or now and then of a new one.
+    fn number(&mut self, text: &[u8], rng: &mut Rng) -> u32 {
+        if text.is_empty() {
+            return NONE;
+        }
+        let bytes = 4 + text.len();
+        let again = self.spare >= bytes && rng.chance(5);
+        match self.numbers.get(text) {
+            Some(&number) if !again => return number,
+            Some(_) => self.spare -= bytes,
+            None => {}
+        }
+        self.place(text);
+        self.numbers[text]
+    }
+}
+
+/// Writes a module into a store that may hold anything; how many bytes of texts it takes. Words without a meaning are drawn.
+pub fn build(store: &mut [u8], module: &Module, texts: Texts, rng: &mut Rng) -> u32 {
+    let mut build = Build { store, rng, texts };
+    build.exprs(module);
+    build.names(module);
+    build.diagnostics(module);
+    build.scopes(module);
+    build.header(module)
 }
 
 struct Build<'s> {
     store: &'s mut [u8],
     rng: &'s mut Rng,
-    /// Texts that lie in the store already.
-    numbers: HashMap<Vec<u8>, u32>,
-    /// Bytes that are left for texts that lie there a second time.
-    spare: usize,
-    /// Bytes of texts in use, and the lengths of the texts alone.
-    used: u32,
-    lengths: u32,
-    /// How many names there are so far.
-    names: usize,
+    texts: Texts,
 }
 
 impl Build<'_> {
-    /// The number of a text: that of the place where it lies already, or now and then a new one at the end of those in use.
-    fn text(&mut self, bytes: &[u8]) -> Built<u32> {
-        if bytes.is_empty() {
-            expect("the empty text", drive::text(self.store, bytes), NONE)?;
-            return Ok(NONE);
-        }
-        if let Some(&number) = self.numbers.get(bytes) {
-            if self.spare < 4 + bytes.len() || self.rng.chance(95) {
-                return Ok(number);
-            }
-            self.spare -= 4 + bytes.len();
-        }
-        let number = self.used;
-        expect("a text", drive::text(self.store, bytes), number)?;
-        self.used += 4 + bytes.len() as u32;
-        self.lengths += bytes.len() as u32;
-        self.numbers.insert(bytes.to_vec(), number);
-        Ok(number)
-    }
-
-    /// Names up to so many.
-    fn names(&mut self, module: &Module, end: usize) -> Built<()> {
-        while self.names < end {
-            let name = &module.names[self.names];
-            let text = self.text(name.text)?;
-            expect("a name", drive::name(self.store, text, name.kind, name.pointer), self.names as u32)?;
-            self.names += 1;
-        }
-        Ok(())
-    }
-
-    /// Expressions one after the other, some in pairs.
-    fn exprs(&mut self, module: &Module) -> Built<()> {
-        let mut e = 0;
-        while e < module.exprs.len() {
-            let some = self.rng.below(3);
-            self.names(module, module.names.len().min(self.names + some))?;
-            let pair = e + 1 < module.exprs.len() && self.rng.chance(20);
-            e += if pair { self.pair(module, e)? } else { self.single(module, e)? };
-        }
-        Ok(())
-    }
-
-    fn single(&mut self, module: &Module, e: usize) -> Built<usize> {
-        let words = self.words(module, e)?;
-        self.push(&words.items);
-        self.allocate(module, e, &words, 0)?;
-        Ok(1)
-    }
-
-    /// Two expressions, and some items of the second wait before the first is built, as those of a list do while an element is lowered.
-    fn pair(&mut self, module: &Module, e: usize) -> Built<usize> {
-        let (first, second) = (self.words(module, e)?, self.words(module, e + 1)?);
-        let room = WAITING.limit - first.items.len();
-        let early = self.rng.between(0, second.items.len().min(room));
-        self.push(&second.items[..early]);
-        self.push(&first.items);
-        self.allocate(module, e, &first, early)?;
-        self.push(&second.items[early..]);
-        self.allocate(module, e + 1, &second, 0)?;
-        Ok(2)
-    }
-
-    /// The words of the expression e, whose names and texts are there first.
-    fn words(&mut self, module: &Module, e: usize) -> Built<Words> {
-        self.names(module, module.exprs[e].expr.names())?;
-        let mut anything = Rng::new(self.rng.draw());
-        encode::words(&module.exprs[e].expr, &mut anything, &mut |bytes| self.text(bytes))
-    }
-
-    fn push(&mut self, items: &[[u32; 3]]) {
-        for &[tag, a, b] in items {
-            drive::push(self.store, tag, a, b);
+    fn row(&mut self, table: Table, row: usize, place: usize, words: &[u32]) {
+        for (i, &word) in words.iter().enumerate() {
+            put(self.store, table.word(row, place) + 4 * i, word);
         }
     }
 
-    /// The expression e with the items that wait from `base` on, which do not wait afterwards.
-    fn allocate(&mut self, module: &Module, e: usize, words: &Words, base: usize) -> Built<()> {
-        expect("waiting items before an expression", drive::waiting(self.store), (base + words.items.len()) as u32)?;
-        let number = match module.exprs[e].pointer {
-            Some(pointer) => drive::expr(self.store, words.sort, words.fields, base as u32, pointer),
-            None => drive::hole(self.store),
-        };
-        expect("an expression", number, e as u32)?;
-        expect("waiting items after an expression", drive::waiting(self.store), base as u32)
+    fn pointer(&mut self, table: Table, row: usize, place: usize, pointer: Pointer) {
+        self.row(table, row, place, &[pointer.kind, pointer.from, pointer.to]);
     }
 
-    fn diagnostics(&mut self, module: &Module) -> Built<()> {
-        for one in &module.diagnostics {
-            let key = self.text(one.key)?;
-            drive::duplicate(self.store, key, one.first, one.second);
-        }
-        Ok(())
+    fn header(&mut self, module: &Module) -> u32 {
+        let texts = &self.texts.bytes;
+        self.store[layout::TEXTS..layout::TEXTS + texts.len()].copy_from_slice(texts);
+        let used = texts.len() as u32;
+        let words = [
+            (header::EXPRS, module.exprs.len() as u32),
+            (header::NAMES, module.names.len() as u32),
+            (header::DIAGNOSTICS, module.diagnostics.len() as u32),
+            (header::LOST, module.lost.len() as u32),
+            (header::ENTRY, module.entry.unwrap_or(0)),
+            (header::SCOPES, module.scopes.len() as u32),
+            (header::SPENT, module.spent),
+            (header::TEXTS, used),
+        ];
+        words.into_iter().for_each(|(at, word)| put(self.store, at, word));
+        used
     }
 
-    fn scopes(&mut self, module: &Module) -> Built<()> {
-        drive::scopes(self.store);
-        for (s, scope) in module.scopes.iter().enumerate() {
-            self.scope(s, scope)?;
-        }
+    fn exprs(&mut self, module: &Module) {
+        let mut items = 0;
         for (e, placed) in module.exprs.iter().enumerate() {
-            if let Some(scope) = placed.scope {
-                drive::place(self.store, e as u32, scope);
-            }
+            self.row(layout::EXPRS, e, 0, &[items as u32]);
+            items += self.expr(e, placed, items);
+            let scope = placed.scope.map_or(0, |scope| scope + 1);
+            self.row(layout::USES, e, 0, &[scope, encode::answer(placed.answer)]);
         }
-        Ok(())
+        self.row(layout::EXPRS, module.exprs.len(), 0, &[items as u32]);
     }
 
-    fn scope(&mut self, s: usize, scope: &Scope) -> Built<()> {
-        let Some(parent) = scope.parent else {
-            drive::root(self.store);
-            return Ok(());
-        };
-        let number = match &scope.what {
-            Scoped::With(e) => drive::with(self.store, parent, *e),
-            Scoped::Definitions(names) => {
-                for (i, &name) in names.iter().enumerate() {
-                    drive::enter(self.store, i as u32, name);
-                }
-                drive::scope(self.store, parent, names.len() as u32)
-            }
-        };
-        expect("a scope", number, s as u32)
-    }
-
-    fn answers(&mut self, module: &Module) {
-        for (e, placed) in module.exprs.iter().enumerate() {
-            drive::answer(self.store, e as u32, encode::answer(placed.answer));
+    /// The expression e with its list, which begins with this item; how long the list is.
+    fn expr(&mut self, e: usize, placed: &Placed, first: usize) -> usize {
+        let (texts, mut more) = (&mut self.texts, Rng::new(self.rng.draw()));
+        let words = encode::words(&placed.expr, self.rng, &mut |text| texts.number(text, &mut more));
+        self.row(layout::EXPRS, e, 1, &[words.sort]);
+        self.row(layout::EXPRS, e, 2, &words.fields);
+        for (i, item) in words.items.iter().enumerate() {
+            self.row(layout::ITEMS, first + i, 0, item);
         }
+        if let Some(pointer) = placed.pointer {
+            self.pointer(layout::EXPR_POINTERS, e, 0, pointer);
+        }
+        words.items.len()
     }
 
-    fn references(&mut self, module: &Module) {
-        drive::references(self.store);
+    fn names(&mut self, module: &Module) {
+        let mut kept = 0;
         for (n, name) in module.names.iter().enumerate() {
-            for (i, &e) in name.references.iter().enumerate() {
-                drive::reference(self.store, n as u32, i as u32, e);
-            }
-            drive::ended(self.store, n as u32, name.references.len() as u32);
+            let text = self.texts.number(name.text, self.rng);
+            self.row(layout::NAMES, n, 0, &[text, name.kind]);
+            self.pointer(layout::NAME_POINTERS, n, 0, name.pointer);
+            self.row(layout::REFERENCES, n, 0, &[kept as u32]);
+            self.row(layout::KEPT, kept, 0, &name.references);
+            kept += name.references.len();
+        }
+        self.row(layout::REFERENCES, module.names.len(), 0, &[kept as u32]);
+    }
+
+    fn diagnostics(&mut self, module: &Module) {
+        for (d, one) in module.diagnostics.iter().enumerate() {
+            let key = self.texts.number(one.key, self.rng);
+            self.row(layout::DIAGNOSTICS, d, 0, &[key]);
+            self.pointer(layout::DIAGNOSTICS, d, 1, one.first);
+            self.pointer(layout::DIAGNOSTICS, d, 4, one.second);
+        }
+        for (l, &pointer) in module.lost.iter().enumerate() {
+            self.pointer(layout::LOST, l, 0, pointer);
         }
     }
 
-    /// What no call writes: the lost list, and the spent bytes, which putting a text may raise or leave.
-    fn by_hand(&mut self, module: &Module) -> Built<()> {
-        let spent = get(self.store, header::SPENT);
-        if spent != 0 && spent != self.lengths {
-            return Err(format!("{spent} bytes are spent, after texts of {} bytes", self.lengths));
+    fn scopes(&mut self, module: &Module) {
+        let mut entered = 0;
+        for (s, scope) in module.scopes.iter().enumerate() {
+            let (with, names) = match &scope.what {
+                Scoped::With(e) => (e + 1, &[][..]),
+                Scoped::Definitions(names) => (0, names.as_slice()),
+            };
+            let parent = scope.parent.map_or(0, |parent| parent + 1);
+            self.row(layout::SCOPES, s, 0, &[entered as u32, parent, with]);
+            self.row(layout::ENTERED, entered, 0, names);
+            entered += names.len();
         }
-        put(self.store, header::SPENT, module.spent);
-        put(self.store, header::LOST, module.lost.len() as u32);
-        for (row, pointer) in module.lost.iter().enumerate() {
-            put(self.store, LOST.word(row, 0), pointer.kind);
-            put(self.store, LOST.word(row, 1), pointer.from);
-            put(self.store, LOST.word(row, 2), pointer.to);
-        }
-        Ok(())
-    }
-}
-
-fn expect(what: &str, number: u32, right: u32) -> Built<()> {
-    if number == right {
-        Ok(())
-    } else {
-        Err(format!("{what}: {number} and not {right}"))
+        self.row(layout::SCOPES, module.scopes.len(), 0, &[entered as u32]);
     }
 }

@@ -83,15 +83,16 @@ pub const KINDS: &[&str] = &[
 const WIDE: &[&str] = &["child of an expression", "child of an item", "sort over a list", "tag in a list"];
 
 /// One of the kinds, the wide ones more often than the others.
-pub fn kind(rng: &mut Rng) -> &'static str {
+fn kind(rng: &mut Rng) -> &'static str {
     let kinds = if rng.chance(25) { WIDE } else { KINDS };
     rng.pick(kinds)
 }
 
 /// Applies the damage for the time of a look.
-pub fn damaged<T>(store: &mut [u8], damage: &Damage, look: impl FnOnce(&[u8]) -> T) -> T {
+pub fn damaged<T>(store: &mut [u8], damage: &Damage, look: impl FnOnce(&mut [u8]) -> T) -> T {
     let before: Vec<u32> = damage.words.iter().map(|&(at, word)| exchange(store, at, word)).collect();
-    let seen = look(&store[..damage.length.unwrap_or(store.len())]);
+    let length = damage.length.unwrap_or(store.len());
+    let seen = look(&mut store[..length]);
     // Backwards, since a word may have been changed twice.
     for (&(at, _), &word) in damage.words.iter().zip(&before).rev() {
         put(store, at, word);
@@ -103,6 +104,14 @@ fn exchange(store: &mut [u8], at: usize, word: u32) -> u32 {
     let before = get(store, at);
     put(store, at, word);
     before
+}
+
+/// So much damage to a sound store, of all kinds.
+pub fn drawn(store: &[u8], rng: &mut Rng, damages: u64) -> Vec<Damage> {
+    let damager = Damager::new(store);
+    // A kind for which the store has no place is drawn anew; some kinds always have one.
+    let mut draw = || std::iter::repeat_with(|| damager.draw(kind(rng), rng)).flatten().next();
+    (0..damages).filter_map(|_| draw()).collect()
 }
 
 /// Draws damage to one sound store.
@@ -125,7 +134,7 @@ impl<'s> Damager<'s> {
     }
 
     /// Damage of a kind; none where the store has no place for it.
-    pub fn draw(&self, kind: &'static str, rng: &mut Rng) -> Option<Damage> {
+    fn draw(&self, kind: &'static str, rng: &mut Rng) -> Option<Damage> {
         if kind == "short store" {
             return Some(Damage { kind, words: Vec::new(), length: Some(shorter(rng)), must: Must::Short });
         }

@@ -11,7 +11,7 @@ pub struct Words {
 }
 
 /// The words of an expression; `text` gives a text's number.
-pub fn words(expr: &Expr, rng: &mut Rng, text: &mut dyn FnMut(&[u8]) -> Result<u32, String>) -> Result<Words, String> {
+pub fn words(expr: &Expr, rng: &mut Rng, text: &mut dyn FnMut(&[u8]) -> u32) -> Words {
     let mut items = Vec::new();
     let (sort, named) = match expr {
         Expr::Hole => (0, vec![]),
@@ -20,8 +20,8 @@ pub fn words(expr: &Expr, rng: &mut Rng, text: &mut dyn FnMut(&[u8]) -> Result<u
         Expr::IfThenElse { condition, then, otherwise } => (3, vec![*condition, *then, *otherwise]),
         Expr::Float(bits) => (4, halves(*bits)),
         Expr::Integer(value) => (5, halves(*value)),
-        Expr::String(bytes) => (6, vec![text(bytes)?]),
-        Expr::Path(bytes) => (7, vec![text(bytes)?]),
+        Expr::String(bytes) => (6, vec![text(bytes)]),
+        Expr::Path(bytes) => (7, vec![text(bytes)]),
         Expr::Uri => (8, vec![]),
         Expr::Lambda { body, parameter, pattern } => {
             items = pattern.iter().flat_map(|pattern| &pattern.fields).map(|field| of_field(field, rng)).collect();
@@ -41,7 +41,7 @@ pub fn words(expr: &Expr, rng: &mut Rng, text: &mut dyn FnMut(&[u8]) -> Result<u
             (if *recursive { 19 } else { 18 }, vec![])
         }
         Expr::UnaryOp { operator, operand } => (20, vec![*operator, *operand]),
-        Expr::Reference(bytes) => (21, vec![text(bytes)?]),
+        Expr::Reference(bytes) => (21, vec![text(bytes)]),
         Expr::Select { set, default, attributes } => {
             items = of_exprs(attributes, rng);
             (if default.is_some() { 23 } else { 22 }, [Some(*set), *default].into_iter().flatten().collect())
@@ -53,17 +53,17 @@ pub fn words(expr: &Expr, rng: &mut Rng, text: &mut dyn FnMut(&[u8]) -> Result<u
         Expr::With { namespace, body } => (25, vec![*namespace, *body]),
         Expr::Assert { condition, body } => (26, vec![*condition, *body]),
         Expr::StringInterpolation(parts) => {
-            items = of_parts(parts, rng, text)?;
+            items = of_parts(parts, rng, text);
             (27, vec![])
         }
         Expr::PathInterpolation(parts) => {
-            items = of_parts(parts, rng, text)?;
+            items = of_parts(parts, rng, text);
             (28, vec![])
         }
     };
     let mut fields = [(); 3].map(|()| anything(rng));
     fields[..named.len()].copy_from_slice(&named);
-    Ok(Words { sort, fields, items })
+    Words { sort, fields, items }
 }
 
 /// The word of an answer.
@@ -108,12 +108,12 @@ fn of_exprs(exprs: &[u32], rng: &mut Rng) -> Vec<[u32; 3]> {
     exprs.iter().map(|&expr| [0, expr, anything(rng)]).collect()
 }
 
-fn of_parts(parts: &[Part], rng: &mut Rng, text: &mut dyn FnMut(&[u8]) -> Result<u32, String>) -> Result<Vec<[u32; 3]>, String> {
-    let mut item = |part: &Part| match part {
-        Part::Expr(expr) => Ok([0, *expr, anything(rng)]),
-        Part::Literal(bytes) => Ok([1, text(bytes)?, anything(rng)]),
+fn of_parts(parts: &[Part], rng: &mut Rng, text: &mut dyn FnMut(&[u8]) -> u32) -> Vec<[u32; 3]> {
+    let item = |part: &Part| match part {
+        Part::Expr(expr) => [0, *expr, anything(rng)],
+        Part::Literal(bytes) => [1, text(bytes), anything(rng)],
     };
-    parts.iter().map(&mut item).collect()
+    parts.iter().map(item).collect()
 }
 
 /// Statics, sources and dynamics mixed, each kind in its own order, which is all that a reader may go by.

@@ -3,7 +3,7 @@
 /// The shortest store.
 pub const BYTES: usize = 3_948_672;
 
-/// What stands for the empty text, for an absent kid, and for a call that did nothing.
+/// What stands for the empty text.
 pub const NONE: u32 = u32::MAX;
 
 /// Offsets of the header's words.
@@ -17,8 +17,6 @@ pub mod header {
     pub const SPENT: usize = 24;
     pub const TEXTS: usize = 28;
     pub const WAITING: usize = 32;
-    pub const OPEN_SETS: usize = 36;
-    pub const OPEN_ENTRIES: usize = 40;
     pub const END: usize = 64;
 }
 
@@ -43,9 +41,6 @@ pub const ENTERED: Table = table(2_490_464, 4, 4_096);
 pub const REFERENCES: Table = table(2_506_848, 4, 4_096);
 pub const KEPT: Table = table(2_523_236, 4, 16_384);
 pub const WAITING: Table = table(2_588_772, 12, 16_384);
-pub const NODE_COUNT: usize = 2_998_372;
-pub const NODES: Table = table(2_998_376, 24, 4_096);
-pub const KIDS: Table = table(3_096_704, 4, 16_384);
 
 /// Where the texts begin; they go to the end of the store.
 pub const TEXTS: usize = 3_162_240;
@@ -97,9 +92,6 @@ mod tests {
         assert_eq!(end(ENTERED, 4_096), REFERENCES.at);
         assert_eq!(end(REFERENCES, 4_097), KEPT.at);
         assert_eq!(end(KEPT, 16_384), WAITING.at);
-        assert_eq!(NODE_COUNT + 4, NODES.at);
-        assert_eq!(end(NODES, 4_097), KIDS.at);
-        assert_eq!(end(KIDS, 16_384), TEXTS);
         assert_eq!(TEXTS + TEXTS_UNSPENT + 5 * SPENT_LIMIT, BYTES);
     }
 }

@@ -96,21 +96,6 @@ pub enum Expr<'a> {
     PathInterpolation(Vec<Part<'a>>),
 }
 
-impl Expr<'_> {
-    /// How many names there must be for those that it has: one more than the highest.
-    pub fn names(&self) -> usize {
-        let names: Vec<u32> = match self {
-            Expr::Lambda { parameter, pattern, .. } => {
-                let fields = pattern.iter().flat_map(|pattern| &pattern.fields);
-                fields.filter_map(|field| field.name).chain(*parameter).collect()
-            }
-            Expr::LetIn { bindings, .. } | Expr::AttrSet { bindings, .. } => bindings.statics.iter().map(|one| one.name).collect(),
-            _ => Vec::new(),
-        };
-        names.iter().max().map_or(0, |&highest| highest as usize + 1)
-    }
-}
-
 #[derive(Debug, Clone, PartialEq, Eq)]
 pub struct Pattern {
     pub fields: Vec<Field>,

@@ -15,11 +15,6 @@ pub fn read(bytes: &[u8]) -> Read<Module<'_>> {
     Ok(module)
 }
 
-/// Reads what lowering makes. Scopes, answers and references come later; they are left out, and their tables may hold anything.
-pub fn lowered(bytes: &[u8]) -> Read<Module<'_>> {
-    Page::open(bytes)?.lowered()
-}
-
 /// The rows of a list, by their numbers.
 type Rows = std::ops::Range<u32>;
 

@@ -1,15 +1,16 @@
-//! Random modules built, read back and compared; then damaged stores, judged by the compiled check and by the one from the page.
+//! Random modules written into a store and read back; then damaged stores, judged by the compiled check, as a call shows it, and by the
+//! one from the page. A refused call leaves every byte.
 
-use super::build::build;
+use super::build::{build, Texts};
 use super::coverage::Coverage;
-use super::damage::{damaged, kind, Damage, Damager, Must, KINDS};
+use super::damage::{damaged, drawn, Must, KINDS};
 use super::layout::{self, header, put};
 use super::model::{self, Size};
 use super::module::Module;
 use super::same::same_module;
 use super::sound::condition;
-use super::{edges, page, Lent};
-use crate::drive;
+use super::{page, Lent};
+use crate::exported;
 use generate::Rng;
 use std::collections::BTreeMap;
 
@@ -35,40 +36,33 @@ pub fn run(fills: u64, damages: u64, seed: u64) -> bool {
     for i in 0..damages.div_ceil(20) {
         run.whole(&mut lent, seed.wrapping_add(i));
     }
-    if let Err(why) = edges::short_stores(&mut Rng::new(seed)) {
-        run.differs("calls on short stores", why);
-    }
     run.print(fills);
     run.differences.is_empty()
 }
 
+/// Writes the random module of a seed into a store.
+pub fn filled<T>(store: &mut [u8], size: &Size, rng: &mut Rng, look: impl FnOnce(&mut [u8], &Module) -> T) -> T {
+    let texts = model::texts(rng, size);
+    let mut module = model::module(rng, size, &texts);
+    let to_come = texts.iter().map(|text| 4 + text.len()).sum();
+    module.texts = build(store, &module, Texts::new(to_come), rng);
+    look(store, &module)
+}
+
 impl Run {
-    /// One module: built on soiled bytes, read back, and damaged so many times.
+    /// One module: written over soiled bytes, read back, and damaged so many times.
     fn fill(&mut self, lent: &mut Lent, seed: u64, damages: u64) {
         let mut rng = Rng::new(seed);
         let size = Size::of_seed(&mut rng, seed);
-        let texts = model::texts(&mut rng, &size);
-        let mut module = model::module(&mut rng, &size, &texts);
         lent.soil(&mut rng);
-        let mut stages = Vec::new();
-        let built =
-            build(lent.store(), &mut module, &texts, &mut rng, &mut |store| stages.push((drive::condition(store), condition(store))));
-        for (i, told) in stages.into_iter().enumerate() {
-            // A cleared store has no expression, and is in order whatever it held.
-            let must = if i == 0 { Some(23) } else { None };
-            self.judged("store being built", told, must, || format!("seed {seed}, stage {i}"));
-        }
-        if let Err(why) = built.and_then(|()| holds(lent.store(), &module)) {
+        let sound = if size.exprs == 0 { 23 } else { 0 };
+        let built = filled(lent.store(), &size, &mut rng, |store, module| same_module(&page::read(store)?, module));
+        if let Err(why) = built {
             return self.differs("filled store", format!("seed {seed}, {why}"));
         }
         self.coverage.add(lent.store());
-        let sound = if module.exprs.is_empty() { 23 } else { 0 };
-        let told = (drive::condition(lent.store()), condition(lent.store()));
-        self.judged("filled store", told, Some(sound), || format!("seed {seed}"));
+        self.judged("filled store", lent.store(), Some(sound), || format!("seed {seed}"));
         self.damage(lent.store(), &mut rng, sound, damages, seed);
-        if let Err(why) = edges::full_tables(lent.store(), &module) {
-            self.differs("calls on full tables", format!("seed {seed}, {why}"));
-        }
         if !lent.margins_stand() {
             self.differs("filled store", format!("seed {seed}, bytes outside the store were written"));
         }
@@ -76,18 +70,21 @@ impl Run {
 
     /// Damages a filled store, one time after the other, and mends it again.
     fn damage(&mut self, store: &mut [u8], rng: &mut Rng, sound: u32, damages: u64, seed: u64) {
+        let before = store.to_vec();
         for (i, damage) in drawn(store, rng, damages).iter().enumerate() {
-            let told = damaged(store, damage, |store| (drive::condition(store), condition(store)));
             let must = match damage.must {
                 Must::Stay => Some(sound),
                 Must::Break => Some(22),
                 Must::Short => Some(21),
                 Must::Either => None,
             };
-            self.judged(damage.kind, told, must, || format!("seed {seed}, damage {i}: {damage:?}"));
+            damaged(store, damage, |store| self.judged(damage.kind, store, must, || format!("seed {seed}, damage {i}: {damage:?}")));
         }
-        let told = (drive::condition(store), condition(store));
-        self.judged("mended store", told, Some(sound), || format!("seed {seed}"));
+        self.judged("mended store", store, Some(sound), || format!("seed {seed}"));
+        // The mending puts back what the damage took, so whatever else was written shows.
+        if store != before {
+            self.differs("mended store", format!("seed {seed}, a refused call wrote to the store"));
+        }
     }
 
     /// Bytes that nobody built: what soils a store, as it is, or with a header that is in order.
@@ -105,19 +102,18 @@ impl Run {
                 ("any bytes under small counts", None)
             }
         };
-        let told = (drive::condition(lent.store()), condition(lent.store()));
-        self.judged(kind, told, must, || format!("seed {seed}"));
+        self.judged(kind, lent.store(), must, || format!("seed {seed}"));
     }
 
-    /// Counts what both checks told, and a difference between them or from what must be.
-    fn judged(&mut self, kind: &str, told: (u32, u32), must: Option<u32>, name: impl Fn() -> String) {
-        let (drive, page) = told;
+    /// Counts what both checks tell, and a difference between them or from what must be.
+    fn judged(&mut self, kind: &str, store: &[u8], must: Option<u32>, name: impl Fn() -> String) {
+        let (told, page) = (exported::condition(store), condition(store));
         if let Some(column) = CONDITIONS.iter().position(|&number| number == page) {
             self.seen.entry(kind.to_string()).or_default()[column] += 1;
         }
-        if drive != page || must.is_some_and(|must| must != page) {
+        if told != page || must.is_some_and(|must| must != page) {
             let must = must.map_or(String::new(), |must| format!(", must be {must}"));
-            self.differs(kind, format!("drive {drive}, page {page}{must}; {}", name()));
+            self.differs(kind, format!("told {told}, page {page}{must}; {}", name()));
         }
     }
 
@@ -148,7 +144,7 @@ impl Run {
 }
 
 /// Nothing is in use.
-fn empty_header(store: &mut [u8]) {
+pub fn empty_header(store: &mut [u8]) {
     store[..header::END].fill(0);
     for table in [layout::EXPRS, layout::SCOPES, layout::REFERENCES] {
         put(store, table.at, 0);
@@ -156,7 +152,7 @@ fn empty_header(store: &mut [u8]) {
 }
 
 /// Counts of up to two, and lists that are all empty.
-fn small_header(store: &mut [u8], rng: &mut Rng) {
+pub fn small_header(store: &mut [u8], rng: &mut Rng) {
     for at in (0..header::END).step_by(4) {
         put(store, at, rng.below(3) as u32);
     }
@@ -168,20 +164,7 @@ fn small_header(store: &mut [u8], rng: &mut Rng) {
     }
 }
 
-/// So much damage to a store, of all kinds.
-fn drawn(store: &[u8], rng: &mut Rng, damages: u64) -> Vec<Damage> {
-    let damager = Damager::new(store);
-    // A kind for which the store has no place is drawn anew; some kinds always have one.
-    let mut draw = || std::iter::repeat_with(|| damager.draw(kind(rng), rng)).flatten().next();
-    (0..damages).filter_map(|_| draw()).collect()
-}
-
 fn print_row(kind: &str, seen: [u64; 4]) {
     let [sound, short, broken, empty] = seen;
     println!("{kind:<34} {:>8} {sound:>8} {short:>8} {broken:>8} {empty:>8}", seen.iter().sum::<u64>());
-}
-
-/// Whether the store holds the module, by the reader.
-pub fn holds(store: &[u8], module: &Module) -> Result<(), String> {
-    same_module(&page::read(store)?, module)
 }

@@ -1,11 +1,12 @@
-//! How much stack lowering takes: the stack of a thread is painted below the frame that calls, and afterwards one looks how deep the
+//! How much stack a load takes: the stack of a thread is painted below the frame that calls, and afterwards one looks how deep the
 //! paint is gone.
 
-use super::compare::holds;
-use super::{bring, sheets, Named};
-use crate::drive;
+use crate::exported::{self, REPLY};
+use crate::lower::sheets;
+use crate::nameres::expected::Right;
+use crate::speed::rust;
 use crate::store::Lent;
-use lang_ast::classify;
+use canon::Reading;
 use sheet::Node;
 use std::thread;
 use tix::{with_big_stack, Tix};
@@ -17,44 +18,34 @@ const REST: usize = 1 << 20;
 const NEAR: usize = 4_096;
 const PAINT: u64 = 0xc7a5_93e1_5b6d_8f37;
 
-pub fn run() -> Result<(), String> {
-    print("Compiled", of_compiled, of_rust)
-}
-
 /// Prints the bytes of stack for the deepest sheets of every sort, and which takes the most.
-pub fn print(
-    column: &str,
-    of_compiled: fn(&Named) -> Result<usize, String>,
-    of_rust: fn(&[Node]) -> Result<usize, String>,
-) -> Result<(), String> {
-    println!("| Sheet | Nodes | {column} | Rust |");
+pub fn run() -> Result<(), String> {
+    println!("| Sheet | Nodes | Load | Rust |");
     println!("|---|---|---|---|");
     let mut most = (0, String::new());
     for sheet in sheets::deep().into_iter().chain(sheets::merged()) {
-        let (compiled, rust) = (of_compiled(&sheet)?, of_rust(&sheet.nodes)?);
-        println!("| {} | {} | {compiled} | {rust} |", sheet.name, sheet.nodes.len());
-        most = most.max((compiled, sheet.name));
+        let load = of_load(&sheet.nodes).map_err(|why| format!("{}: {why}", sheet.name))?;
+        let rust = used(|| drop(rust::loaded(rnix::Root::of_nodes(&sheet.nodes))))?;
+        println!("| {} | {} | {load} | {rust} |", sheet.name, sheet.nodes.len());
+        most = most.max((load, sheet.name));
     }
     println!("bytes of stack below the caller's frame; the most: {} bytes, {}", most.0, most.1);
+    println!("the Rust: lowering, scopes and answers of a tree that is there");
     Ok(())
 }
 
-fn of_compiled(sheet: &Named) -> Result<usize, String> {
+fn of_load(nodes: &[Node]) -> Result<usize, String> {
     let mut lent = Lent::new();
-    let store = lent.store();
-    bring(store, &sheet.nodes)?;
-    let used = used(|| drive::lower(store))?;
-    let right = with_big_stack(|| Tix::new(&sheet.nodes).module());
-    holds(lent.store(), &sheet.nodes, &right).map_err(|why| format!("{}: {why}", sheet.name))?;
+    let (store, sheet, mut reply) = (lent.store(), sheet::write(nodes), [0; REPLY]);
+    let used = used(|| {
+        exported::load(&sheet, store, &mut reply);
+    })?;
+    with_big_stack(|| Right::loaded(nodes, Tix::new(nodes).facts()).holds(store))?;
     Ok(used)
 }
 
-fn of_rust(nodes: &[Node]) -> Result<usize, String> {
-    used(|| drop(classify::lower(rnix::Root::of_nodes(nodes))))
-}
-
 /// How many bytes of stack the work takes, on a thread of its own.
-pub fn used(work: impl FnOnce() + Send) -> Result<usize, String> {
+fn used(work: impl FnOnce() + Send) -> Result<usize, String> {
     let used = thread::scope(|scope| {
         let thread = thread::Builder::new().stack_size(PAINTED + REST).spawn_scoped(scope, || painted(work));
         thread.map_err(|why| why.to_string())?.join().map_err(|_| "the work panicked".to_string())

@@ -28,12 +28,12 @@ pub fn can_change(facts: &Facts) -> bool {
     !facts.module.names.is_empty() || !facts.resolution.answers.is_empty()
 }
 
-/// The text that a target has now.
+/// The text that a target has now; none where there is no such one.
 pub fn text_of(facts: &Facts, target: Target) -> &[u8] {
     match target {
-        Target::Name(name) => &facts.module.names[name as usize].text,
-        Target::Reference(e) => match &facts.module.exprs[e as usize] {
-            Expr::Reference(text) => text,
+        Target::Name(name) => facts.module.names.get(name as usize).map_or(&[], |name| &name.text),
+        Target::Reference(e) => match facts.module.exprs.get(e as usize) {
+            Some(Expr::Reference(text)) => text,
             _ => &[],
         },
     }
@@ -57,11 +57,17 @@ pub struct Changes {
 }
 
 impl Changes {
-    pub fn new(seed: u64) -> Self {
-        Changes { rng: Rng::new(seed), greedy: seed.is_multiple_of(8), chain: VecDeque::new() }
+    pub fn new(seed: u64, greedy: bool) -> Self {
+        Changes { rng: Rng::new(seed), greedy, chain: VecDeque::new() }
     }
 
-    /// The next change. Its text is cut so that it may be set: to 255 bytes, and to what is left of the change room.
+    /// A change that stands alone, beside the chain.
+    pub fn alone(&mut self, facts: &Facts) -> Change {
+        let target = self.target(facts);
+        Change { target, text: self.text(facts, target) }
+    }
+
+    /// The next change. Its text is cut so that it may be set: to 255 bytes, and to this room.
     pub fn next(&mut self, facts: &Facts, room: usize) -> Change {
         let mut change = match self.chain.pop_front() {
             Some(change) => change,

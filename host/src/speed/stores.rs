@@ -1,11 +1,11 @@
-//! Nanoseconds for each byte that the check of a store goes through, beside a plain sum over the same bytes.
+//! Nanoseconds for each byte that the check of a store goes through, as an asking that gets no further shows it, beside a plain sum over
+//! the same bytes.
 
-use super::build::build;
-use super::damage::Damager;
-use super::model::{self, Size};
-use super::{sound, Lent};
-use crate::drive;
-use crate::speed::plain_sum;
+use crate::exported;
+use crate::store::damage::Damager;
+use crate::store::model::Size;
+use crate::store::runs::filled;
+use crate::store::{sound, Lent};
 use generate::Rng;
 use std::hint::black_box;
 use std::time::Instant;
@@ -16,7 +16,7 @@ const ROUND_BYTES: usize = 16 << 20;
 
 /// Prints a table of stores of three sizes, as rows of docs/PERFORMANCE.md.
 pub fn run() -> Result<(), String> {
-    println!("| Store | Expressions | Bytes of rows in use | Condition | Check from the page | Plain sum | Condition to sum | Condition, whole |");
+    println!("| Store | Expressions | Bytes of rows in use | Refused ask | Check from the page | Plain sum | Ask to sum | Ask, whole |");
     println!("|---|---|---|---|---|---|---|---|");
     let mut rng = Rng::new(1);
     let small = Size { exprs: 40, items: 60, names: 12, scopes: 8, entered: 12, references: 20, ..Size::about(&mut rng, 20) };
@@ -30,23 +30,19 @@ pub fn run() -> Result<(), String> {
 }
 
 fn measure(name: &str, size: &Size) -> Result<(), String> {
-    let mut rng = Rng::new(2);
-    let texts = model::texts(&mut rng, size);
-    let mut module = model::module(&mut rng, size, &texts);
     let mut lent = Lent::new();
-    build(lent.store(), &mut module, &texts, &mut rng, &mut |_| {})?;
+    filled(lent.store(), size, &mut Rng::new(2), |_, _| ());
     let store = &*lent.store();
-    if drive::condition(store) != 0 || sound::condition(store) != 0 {
+    if exported::condition(store) != 0 || sound::condition(store) != 0 {
         return Err(format!("the {name} store is not sound"));
     }
     let runs = Damager::new(store).runs();
     let bytes: usize = runs.iter().map(|run| run.len()).sum();
-    let condition = least(bytes, || u64::from(drive::condition(black_box(store))));
+    let ask = least(bytes, || u64::from(exported::condition(black_box(store))));
     let page = least(bytes, || u64::from(sound::condition(black_box(store))));
     let sum = least(bytes, || runs.iter().map(|run| plain_sum(&black_box(store)[run.clone()])).sum());
-    let whole = condition * bytes as f64 / 1e3;
-    let exprs = module.exprs.len();
-    println!("| {name} | {exprs} | {bytes} | {condition:.3} | {page:.3} | {sum:.3} | {:.1} | {whole:.1} |", condition / sum);
+    let (whole, exprs) = (ask * bytes as f64 / 1e3, size.exprs);
+    println!("| {name} | {exprs} | {bytes} | {ask:.3} | {page:.3} | {sum:.3} | {:.1} | {whole:.1} |", ask / sum);
     Ok(())
 }
 
@@ -62,4 +58,14 @@ fn least(bytes: usize, mut work: impl FnMut() -> u64) -> f64 {
         best = best.min(start.elapsed().as_secs_f64());
     }
     best * 1e9 / (turns * bytes) as f64
+}
+
+/// The sum of the bytes, in a function of its own, so that its machine code can be looked at.
+#[inline(never)]
+fn plain_sum(bytes: &[u8]) -> u64 {
+    let mut sum = 0;
+    for &byte in bytes {
+        sum += u64::from(byte);
+    }
+    sum
 }

@@ -1,0 +1,109 @@
+//! What the calls of a run met, so that a run says what it saw, and fails if it did not see all.
+
+use super::changes::text_of;
+use super::draw::target;
+use super::Loaded;
+use crate::making::{kind, KINDS};
+use book::{Call, Outcome, ROOM_BYTES};
+use canon::Facts;
+
+/// A text of at least so many bytes is counted as a long one.
+const LONG: usize = 200;
+
+/// The refusals that a call on a loaded store can meet, after 0 for none.
+const NUMBERS: [u32; 7] = [0, 8, 21, 24, 25, 26, 27];
+/// Refusals that a kind of call can't meet, by the columns.
+const NEVER: [&[u32]; 4] = [&[8, 27], &[8, 25, 27], &[26], &[25, 26]];
+
+#[derive(Default)]
+pub struct Seen {
+    pub calls: u64,
+    loads: u64,
+    names: u64,
+    references: u64,
+    /// By the kind of call and the number returned.
+    numbers: [[u64; 7]; 4],
+    /// Accepted askings by the answer 0 to 3.
+    answers: [u64; 4],
+    /// References told for names.
+    told: u64,
+    equal: u64,
+    equal_over: u64,
+    equal_spent: u64,
+    empty: u64,
+    long: u64,
+    back: u64,
+    moving: u64,
+    moved: u64,
+    spent: u64,
+}
+
+impl Seen {
+    /// Adds a call, before what it changed is in the facts.
+    pub fn add(&mut self, loaded: &Loaded, call: &Call, outcome: &Outcome) {
+        self.calls += 1;
+        if let Some(column) = NUMBERS.iter().position(|&number| number == outcome.refused) {
+            self.numbers[kind(call)][column] += 1;
+        }
+        if let Some(answer) = &outcome.answer {
+            self.answers[answer.number() as usize] += 1;
+        } else {
+            self.told += outcome.list.len() as u64;
+        }
+        self.moving += u64::from(!outcome.moved.is_empty());
+        self.moved += outcome.moved.len() as u64;
+        if let (Some((target, text)), Some(changed)) = (target(call), outcome.changed) {
+            self.equal += u64::from(!changed);
+            self.equal_spent += u64::from(!changed && loaded.right.spent() + text.len() > ROOM_BYTES);
+            self.empty += u64::from(changed && text.is_empty());
+            self.long += u64::from(changed && text.len() >= LONG);
+            self.back += u64::from(changed && text_of(&loaded.first, target) == text);
+        }
+        self.equal_over +=
+            u64::from(outcome.refused == 8 && target(call).is_some_and(|(at, text)| text_of(&loaded.right.facts, at) == text));
+    }
+
+    /// Adds what a load had, when its calls are made.
+    pub fn end(&mut self, first: &Facts, spent: usize) {
+        self.loads += 1;
+        self.names += first.module.names.len() as u64;
+        self.references += first.resolution.answers.len() as u64;
+        self.spent += u64::from(spent == ROOM_BYTES);
+    }
+
+    /// Whether every refusal and every answer came up where it can, and what document 01 says of equal texts too.
+    pub fn complete(&self) -> bool {
+        let mut complete = true;
+        for (kind, numbers) in self.numbers.iter().enumerate() {
+            for (&number, &count) in NUMBERS.iter().zip(numbers) {
+                if count == 0 && !NEVER[kind].contains(&number) {
+                    println!("NEVER CAME UP: {} with {number}", KINDS[kind]);
+                    complete = false;
+                }
+            }
+        }
+        let others = [self.told, self.equal, self.equal_over, self.equal_spent, self.empty, self.long, self.moved, self.spent];
+        if self.answers.contains(&0) || others.contains(&0) {
+            println!("NEVER CAME UP: an answer or a kind of text above");
+            complete = false;
+        }
+        complete
+    }
+
+    pub fn print(&self) {
+        println!("{} loads with {} names and {} References, {} calls", self.loads, self.names, self.references, self.calls);
+        println!("{:<18} {:>8} {:>8} {:>8} {:>8} {:>8} {:>8} {:>8}", "refused with", "0", "8", "21", "24", "25", "26", "27");
+        for (kind, [none, long, short, absent, other, buffer, room]) in KINDS.iter().zip(self.numbers) {
+            println!("{kind:<18} {none:>8} {long:>8} {short:>8} {absent:>8} {other:>8} {buffer:>8} {room:>8}");
+        }
+        let [none, definitions, builtins, withs] = self.answers;
+        println!("answers told: nothing {none}, a definition {definitions}, a builtin {builtins}, Withs {withs}");
+        println!("References told for names: {}", self.told);
+        println!("changes with an equal text: {}, in which it did not fit the room: {}", self.equal, self.equal_spent);
+        println!("changes refused with 8 although the text was equal: {}", self.equal_over);
+        let (empty, long, back) = (self.empty, self.long, self.back);
+        println!("changes to the empty text: {empty}, to {LONG} bytes or more: {long}, back to the text as loaded: {back}");
+        println!("calls that moved answers: {}, with {} answers in all", self.moving, self.moved);
+        println!("loads whose change room was spent to its last byte: {}", self.spent);
+    }
+}

@@ -1,0 +1,162 @@
+//! Microseconds for one asking and for one change of a text, the check of the store included, beside the Rust, which has no changes and
+//! works everything out again.
+
+use super::{median, random, rust, time, Pair, ROUNDS, SHEETS};
+use crate::calls::changes::{text_of, Target};
+use crate::exported::{self, REPLY};
+use crate::nameres::sheets;
+use crate::store::layout::{header, put, EXPRS};
+use crate::store::Lent;
+use canon::{Answer, Facts, Reading};
+use lang_ast::classify;
+use sheet::Node;
+use std::hint::black_box;
+use tix::Tix;
+
+/// A text that no name and no Reference has.
+const FRESH: &[u8] = b"renamed";
+
+/// What is asked about and changed, and which name or Reference that is in a module; none where there is no such one.
+type Choice = (&'static str, fn(&Facts) -> Option<Target>);
+
+const CHOICES: [Choice; 3] = [
+    ("the name that is used most", |facts| used_most(facts).map(Target::Name)),
+    ("a name that is never used", |facts| never_used(facts).map(Target::Name)),
+    ("a Reference to a definition", |facts| defined(facts).map(Target::Reference)),
+];
+
+/// For a sheet without names.
+const FIRST: Choice = ("the first Reference", |facts| facts.resolution.answers.keys().next().copied().map(Target::Reference));
+
+/// Prints a table of random sheets of two sizes, and of large ones.
+pub fn run() -> Result<(), String> {
+    println!("| Sheets | One call about | Moved | Ask | Change | Rust: scopes, answers | Change to Rust | Rust: all from the bytes | Change to Rust |");
+    println!("|---|---|---|---|---|---|---|---|---|");
+    for nodes in [512, 4_096] {
+        let sheets = random(nodes, false);
+        for choice in CHOICES {
+            family(&format!("{SHEETS} random, of {nodes} nodes"), choice, &sheets)?;
+        }
+    }
+    for sheet in sheets::large() {
+        let choice = if Tix::new(&sheet.nodes).facts().module.names.is_empty() { FIRST } else { CHOICES[0] };
+        family(&sheet.name, choice, &[sheet.nodes])?;
+    }
+    println!("a change to a text that nothing bears, and back, of which the mean is taken; moved: how many answers that moves;");
+    println!("the Rust has no changes and works everything out again: scopes and answers, or all from the sheet's bytes");
+    Ok(())
+}
+
+fn used_most(facts: &Facts) -> Option<u32> {
+    let references = &facts.resolution.references;
+    (0..references.len() as u32).max_by_key(|&name| references[name as usize].len())
+}
+
+/// Of the names that nothing is answered with, the one whose text the fewest References bear.
+fn never_used(facts: &Facts) -> Option<u32> {
+    let bearers = |name: u32| {
+        let text = text_of(facts, Target::Name(name));
+        facts.resolution.answers.keys().filter(|&&e| text_of(facts, Target::Reference(e)) == text).count()
+    };
+    let unused = (0..facts.module.names.len() as u32).filter(|&name| facts.resolution.references[name as usize].is_empty());
+    unused.min_by_key(|&name| bearers(name))
+}
+
+/// The Reference in the middle of those that are answered with a definition.
+fn defined(facts: &Facts) -> Option<u32> {
+    let defined: Vec<u32> =
+        facts.resolution.answers.iter().filter(|(_, answer)| matches!(answer, Answer::Definition(_))).map(|(&e, _)| e).collect();
+    defined.get(defined.len() / 2).copied()
+}
+
+/// The times for one sheet.
+struct Measured {
+    moved: usize,
+    ask: f64,
+    again: Pair,
+    whole: Pair,
+}
+
+fn family(name: &str, (what, choice): Choice, sheets: &[Vec<Node>]) -> Result<(), String> {
+    let mut lent = Lent::new();
+    let mut all = Vec::new();
+    for sheet in sheets {
+        all.extend(measure(lent.store(), sheet, choice)?);
+    }
+    if all.is_empty() {
+        return Ok(());
+    }
+    let moved = median(all.iter().map(|one| one.moved as f64).collect());
+    let ask = median(all.iter().map(|one| one.ask).collect());
+    let pairs = |part: fn(&Measured) -> &Pair| all.iter().map(part).collect::<Vec<_>>();
+    let (again, whole) = (pairs(|one| &one.again), pairs(|one| &one.whole));
+    let (compiled, again, whole) = (Pair::compiled(&again), Pair::rust(&again), Pair::rust(&whole));
+    println!("| {name} | {what} | {moved} | {ask:.1} | {compiled:.1} | {again} | {whole} |");
+    Ok(())
+}
+
+/// Round by round both sides in turn; none where the sheet has nothing to ask about.
+fn measure(store: &mut [u8], nodes: &[Node], choice: fn(&Facts) -> Option<Target>) -> Result<Option<Measured>, String> {
+    let bytes = sheet::write(nodes);
+    exported::loaded(&bytes, store)?;
+    let facts = Tix::new(nodes).facts();
+    let Some(target) = choice(&facts) else { return Ok(None) };
+    let old = text_of(&facts, target);
+    let (module, _) = classify::lower(rnix::Root::of_nodes(nodes));
+    // Long enough for any list.
+    let mut buffer = vec![0; 4 * EXPRS.limit];
+    let mut times = [(); 4].map(|()| Vec::new());
+    for _ in 0..ROUNDS {
+        times[0].push(time(|| ask(black_box(store), target, &mut buffer)));
+        let there = time(|| change(black_box(store), target, FRESH));
+        let back = time(|| change(black_box(store), target, old));
+        times[1].push((there + back) / 2.0);
+        times[2].push(time(|| rust::resolved(black_box(&module))));
+        times[3].push(time(|| rust::from_bytes(black_box(&bytes))));
+        // So that the room lasts for all rounds; a store may have more texts in use than its changes account for.
+        put(store, header::SPENT, 0);
+    }
+    let moved = match target {
+        Target::Name(name) => facts.resolution.references[name as usize].len(),
+        Target::Reference(_) => 1,
+    };
+    same(store, target, &mut buffer, &facts)?;
+    let [ask, compiled, again, whole] = times.map(median);
+    Ok(Some(Measured { moved, ask, again: Pair { compiled, rust: again }, whole: Pair { compiled, rust: whole } }))
+}
+
+/// Asks; the number and the words that were told.
+fn ask(store: &[u8], target: Target, buffer: &mut [u8]) -> (u32, [u8; REPLY]) {
+    let mut reply = [0; REPLY];
+    let number = match target {
+        Target::Name(name) => exported::ask_name(store, name, buffer, &mut reply),
+        Target::Reference(e) => exported::ask_reference(store, e, buffer, &mut reply),
+    };
+    (number, reply)
+}
+
+fn change(store: &mut [u8], target: Target, text: &[u8]) -> u32 {
+    let mut reply = [0; REPLY];
+    match target {
+        Target::Name(name) => exported::change_name(store, name, text, &mut reply),
+        Target::Reference(e) => exported::change_reference(store, e, text, &mut reply),
+    }
+}
+
+/// Whether all changes were made and taken back: the last asking is told what it was told first.
+fn same(store: &mut [u8], target: Target, buffer: &mut [u8], facts: &Facts) -> Result<(), String> {
+    let (number, reply) = ask(store, target, buffer);
+    let told = u32::from_le_bytes([reply[16], reply[17], reply[18], reply[19]]) as usize;
+    let right = match target {
+        Target::Name(name) => facts.resolution.references[name as usize].len(),
+        Target::Reference(e) => match facts.resolution.answers.get(&e) {
+            Some(Answer::Withs(list)) => list.len(),
+            _ => 0,
+        },
+    };
+    if (number, told) == (0, right) && change(store, target, FRESH) == 0 {
+        Ok(())
+    } else {
+        Err(format!("after the changes an asking about {target:?} is told {number}, with {told} numbers and not {right}"))
+    }
+}
