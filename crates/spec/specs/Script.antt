@@ -50,6 +50,7 @@ lastOnes =
     ∷ (changeName 1 (replicate 255 98) 20, accepted)
     ∷ (changeName 1 (replicate 24 97) 20, accepted)
     ∷ (changeName 1 (bytes "y") 20, refusal 27 0)
+    ∷ (changeName 1 (replicate 256 97) 20, refusal 8 255)
     ∷ (changeName 1 [] 20, accepted)
     ∷ []
 
