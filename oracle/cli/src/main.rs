@@ -4,7 +4,7 @@ use std::io::{Read, Write};
 use std::process::ExitCode;
 
 use canon::Reading;
-use oracle::{refsheet, sheets, vectors};
+use oracle::{examples, refsheet, sheets, vectors};
 
 const USAGE: &str = "usage: oracle COMMAND
   check [SHEET]          whether the sheet is accepted: nodes=, or refused= and at=
@@ -17,7 +17,8 @@ const USAGE: &str = "usage: oracle COMMAND
   tree NOTATION          the sheet of a tree in the short notation, as 21(11(28(18\"x\"),18\"x\"))
   valid PRESET SEED      a random valid sheet
   damaged SEED           a damaged sheet; what was done to it goes to standard error
-  vectors INPUT OUTPUT   writes some hundred sheets to one file and what is said of each to another
+  vectors INPUT OUTPUT   writes some hundred sheets with calls to one file and what comes of each to another
+  examples FOLDER        writes the marked examples and lines A to E as sheets, with a table of what refsheet says of them
 A SHEET is a file, or standard input where it is left out or is '-'.";
 
 fn main() -> ExitCode {
@@ -59,6 +60,7 @@ fn run(arguments: &[String]) -> Result<Vec<u8>, String> {
         ["valid", preset, seed] => sheets::valid(preset, number(seed)?),
         ["damaged", seed] => damaged(number(seed)?),
         ["vectors", input, output] => write_vectors(input, output),
+        ["examples", folder] => write_examples(folder),
         _ => Err(USAGE.to_string()),
     }
 }
@@ -145,5 +147,14 @@ fn write_vectors(input: &str, output: &str) -> Result<Vec<u8>, String> {
     let (sheets, said) = vectors::make()?;
     input_file.write_all(&sheets).map_err(|error| format!("{input}: {error}"))?;
     output_file.write_all(said.as_bytes()).map_err(|error| format!("{output}: {error}"))?;
+    Ok(Vec::new())
+}
+
+fn write_examples(folder: &str) -> Result<Vec<u8>, String> {
+    std::fs::create_dir_all(folder).map_err(|error| format!("{folder}: {error}"))?;
+    for (name, bytes) in examples::files()? {
+        let path = std::path::Path::new(folder).join(name);
+        std::fs::write(&path, bytes).map_err(|error| format!("{}: {error}", path.display()))?;
+    }
     Ok(Vec::new())
 }

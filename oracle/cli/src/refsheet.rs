@@ -2,7 +2,7 @@
 
 use std::fmt::Write;
 
-use canon::{Facts, Reading};
+use canon::{Answer, Facts, Reading};
 use sheet::Refusal;
 
 /// The longest sheet that the program reads.
@@ -28,8 +28,13 @@ pub fn answers(facts: &Facts) -> String {
     let counts = [module.exprs.len(), module.names.len(), facts.scopes.scopes.len(), module.diagnostics.len()];
     let mut out = format!("exprs={}\nnames={}\nscopes={}\ndups={}\n", counts[0], counts[1], counts[2], counts[3]);
     for (expr, answer) in &facts.resolution.answers {
-        // An answer shows itself as `answer=.. to=..`.
-        let _ = writeln!(out, "ref={expr}\n{}", answer.to_string().replace(' ', "\n"));
+        let _ = writeln!(out, "ref={expr}\n{}", answer_lines(answer));
     }
     out
+}
+
+/// The lines `answer=` and `to=`, without the last line end.
+pub fn answer_lines(answer: &Answer) -> String {
+    // An answer shows itself as `answer=.. to=..`.
+    answer.to_string().replace(' ', "\n")
 }

@@ -89,6 +89,8 @@ fn bad_input_gets_a_message_and_status_1() {
         &["damaged", "x"],
         &["script", "-", "1", "many"],
         &["vectors", "no/such/folder/in", "no/such/folder/out"],
+        &["examples"],
+        &["examples", "Cargo.toml/no-folder"],
         &["book", "-", "no/such/script"],
         &["dump"],
         &["edges"],
