@@ -1,5 +1,6 @@
 //! What the oracle's command line and its tests share.
 
+pub mod against;
 pub mod examples;
 pub mod refsheet;
 pub mod sheets;

@@ -4,7 +4,7 @@ use std::io::{Read, Write};
 use std::process::ExitCode;
 
 use canon::Reading;
-use oracle::{examples, refsheet, sheets, vectors};
+use oracle::{against, examples, refsheet, sheets, vectors};
 
 const USAGE: &str = "usage: oracle COMMAND
   check [SHEET]          whether the sheet is accepted: nodes=, or refused= and at=
@@ -19,6 +19,7 @@ const USAGE: &str = "usage: oracle COMMAND
   damaged SEED           a damaged sheet; what was done to it goes to standard error
   vectors INPUT OUTPUT   writes some hundred sheets with calls to one file and what comes of each to another
   examples FOLDER        writes the marked examples and lines A to E as sheets, with a table of what refsheet says of them
+  against PROGRAM SEED COUNT   runs a program in refsheet's place: on sheets at the limits, then on one for each of so many seeds
 A SHEET is a file, or standard input where it is left out or is '-'.";
 
 fn main() -> ExitCode {
@@ -61,6 +62,7 @@ fn run(arguments: &[String]) -> Result<Vec<u8>, String> {
         ["damaged", seed] => damaged(number(seed)?),
         ["vectors", input, output] => write_vectors(input, output),
         ["examples", folder] => write_examples(folder),
+        ["against", program, seed, count] => Ok(against::against(program, number(seed)?, number(count)?)?.into_bytes()),
         _ => Err(USAGE.to_string()),
     }
 }

@@ -90,8 +90,9 @@ pub fn chain(rng: &mut Rng, nest: Option<usize>, depth: usize) -> Vec<Node> {
     around(ROOT, tree).nodes(rng, Pointers::Nested)
 }
 
-/// A list as long as a sheet can hold, of one of nine sorts: the first nine with all keys different, the next nine with many equal.
-pub fn wide(rng: &mut Rng, sort: usize) -> Tree {
+/// A list as long as a sheet of so many nodes can hold, of one of nine sorts: the first nine with all keys different, the next nine with
+/// many equal.
+pub fn wide(rng: &mut Rng, sort: usize, nodes: usize) -> Tree {
     let names = Names::new(rng, 900);
     let differ = sort % 18 < 9;
     let mut key = |number: usize| match differ {
@@ -108,27 +109,27 @@ pub fn wide(rng: &mut Rng, sort: usize) -> Tree {
         |from: Option<Tree>, keys: Vec<Tree>| Tree::new(INHERIT, std::iter::once(from).chain(keys.into_iter().map(Some)).collect());
     let body = || Some(Tree::ident(b"x"));
     match sort % 9 {
-        0 => around(ATTR_SET, inherit(None, many(MAX_NODES - 3))),
-        1 => Tree::full(LIST, many(MAX_NODES - 2)),
-        2 => Tree::new(ATTR_SET, keyed(many(1_300))).flagged(1),
-        3 => Tree::new(LET_IN, std::iter::once(body()).chain(keyed(many(1_364))).collect()),
-        4 => around(ATTR_SET, inherit(Some(Tree::full(INHERIT_FROM, vec![Tree::ident(b"x")])), many(MAX_NODES - 5))).flagged(1),
+        0 => around(ATTR_SET, inherit(None, many(nodes - 3))),
+        1 => Tree::full(LIST, many(nodes - 2)),
+        2 => Tree::new(ATTR_SET, keyed(many(1_300 * nodes / MAX_NODES))).flagged(1),
+        3 => Tree::new(LET_IN, std::iter::once(body()).chain(keyed(many(1_364 * nodes / MAX_NODES))).collect()),
+        4 => around(ATTR_SET, inherit(Some(Tree::full(INHERIT_FROM, vec![Tree::ident(b"x")])), many(nodes - 5))).flagged(1),
         5 => {
-            let entries = many(2_045).into_iter().map(|ident| Some(Tree::new(PAT_ENTRY, vec![Some(ident), None])));
+            let entries = many(2_045 * nodes / MAX_NODES).into_iter().map(|ident| Some(Tree::new(PAT_ENTRY, vec![Some(ident), None])));
             Tree::new(LAMBDA, vec![Some(Tree::new(PATTERN, std::iter::once(None).chain(entries).collect())), body()])
         }
-        6 => Tree::full(STR, (0..MAX_NODES - 2).map(|_| Tree::leaf(LITERAL_PART).with_text(b"s")).collect()),
-        7 => Tree::new(LET_IN, vec![body(), Some(inherit(None, many(MAX_NODES - 4)))]),
-        _ => Tree::full(ATTR_SET, (0..MAX_NODES - 2).map(|_| Tree::new(INHERIT, vec![None])).collect()),
+        6 => Tree::full(STR, (0..nodes - 2).map(|_| Tree::leaf(LITERAL_PART).with_text(b"s")).collect()),
+        7 => Tree::new(LET_IN, vec![body(), Some(inherit(None, many(nodes - 4)))]),
+        _ => Tree::full(ATTR_SET, (0..nodes - 2).map(|_| Tree::new(INHERIT, vec![None])).collect()),
     }
 }
 
 /// Sets nested in one merging state: a path of so many attributes, then a set merged at the last but one of them, and so on inside it. With
 /// 16 attributes each level takes 36 nodes and nests 15 sets, some 1,700 in a whole sheet.
-pub fn merging(rng: &mut Rng, attributes: usize) -> Tree {
+pub fn merging(rng: &mut Rng, attributes: usize, nodes: usize) -> Tree {
     let attributes = attributes.clamp(2, MAX_ATTRS);
     let names = Names::new(rng, 5);
-    let levels = (MAX_NODES - 3) / (2 * attributes + 4);
+    let levels = (nodes - 3) / (2 * attributes + 4);
     let mut inner = around(ATTR_SET, Tree::new(ATTRPATH_VALUE, vec![Some(Tree::path(&[b"x"])), Some(Tree::ident(b"x"))]));
     // An entry and its set are two levels, and the sheet has 256.
     for _ in 1..levels.min(125) {
@@ -139,6 +140,11 @@ pub fn merging(rng: &mut Rng, attributes: usize) -> Tree {
         inner = Tree::full(ATTR_SET, vec![first, second]).flagged(u8::from(rng.chance(30)));
     }
     inner
+}
+
+/// Sets in sets, each below a path of 16 attributes: so many levels of 19 nodes and 16 sets.
+pub fn paths(levels: usize) -> Tree {
+    (0..levels).fold(Tree::ident(b"x"), |inner, _| set(Tree::path(&[b"a" as &[u8]; MAX_ATTRS]), Some(inner), 0))
 }
 
 /// So many Withs around a list of references. 253 are the most: Root, the list and its items take the other levels.

@@ -6,6 +6,7 @@
 //! - `names`: the texts that bindings and references draw from.
 //! - `grow`, `bind`: random trees, expressions in the one and what brings names in the other.
 //! - `preset`: shapes worth testing, the extreme ones built by `extreme`.
+//! - `within`: sheets as large as so many bytes allow, for a program that reads shorter ones.
 //! - `base`, `text_damage`, `node_damage`: what damage starts from, and the damage to a sheet's bytes and to its nodes.
 
 mod base;
@@ -18,6 +19,7 @@ mod preset;
 mod rng;
 mod text_damage;
 pub mod tree;
+mod within;
 
 pub use base::ZOO;
 pub use extreme::{chain, exactly, exactly_written, nests, over_long};
@@ -25,6 +27,7 @@ pub use node_damage::structural;
 pub use preset::Preset;
 pub use rng::Rng;
 pub use text_damage::damaged;
+pub use within::{deepest, within};
 
 use sheet::Node;
 use tree::Pointers;

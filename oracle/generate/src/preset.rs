@@ -77,8 +77,8 @@ impl Preset {
             }
             Preset::LongText if sort % 7 == 6 => return extreme::exactly(MAX_BYTES),
             Preset::LongText => extreme::long_text(&mut rng, sort % 7),
-            Preset::Wide => extreme::wide(&mut rng, sort),
-            Preset::Merging => extreme::merging(&mut rng, if sort % 3 == 0 { 16 } else { 2 + sort % 15 }),
+            Preset::Wide => extreme::wide(&mut rng, sort, MAX_NODES),
+            Preset::Merging => extreme::merging(&mut rng, if sort % 3 == 0 { 16 } else { 2 + sort % 15 }, MAX_NODES),
             Preset::Withs => {
                 let withs = if sort % 2 == 0 { 253 } else { rng.between(0, 253) };
                 let references = if sort % 3 == 0 { MAX_NODES - 2 - 2 * withs } else { rng.between(0, 300) };

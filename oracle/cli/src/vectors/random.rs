@@ -46,6 +46,9 @@ fn script(nodes: &[sheet::Node], seed: u64) -> Vec<Call> {
     calls
 }
 
+/// Damaged sheets with their seeds, by the cause of the refusal.
+type Found = BTreeMap<Cause, Vec<(u64, Vec<u8>)>>;
+
 /// The first damaged sheets of each cause, in the order of the causes.
 pub fn damaged() -> Result<Vec<Vector>, String> {
     let found = found_by_cause()?;
@@ -56,9 +59,9 @@ pub fn damaged() -> Result<Vec<Vector>, String> {
 }
 
 /// For every cause but that of refusal 1, which is longer than a list of vectors should be, so many sheets with their seeds.
-fn found_by_cause() -> Result<BTreeMap<Cause, Vec<(u64, Vec<u8>)>>, String> {
+fn found_by_cause() -> Result<Found, String> {
     let causes: Vec<Cause> = Cause::all().into_iter().filter(|&cause| cause != Cause::TooLong).collect();
-    let mut found: BTreeMap<Cause, Vec<(u64, Vec<u8>)>> = causes.iter().map(|&cause| (cause, Vec::new())).collect();
+    let mut found: Found = causes.iter().map(|&cause| (cause, Vec::new())).collect();
     for seed in 0..2_000_000 {
         let (sheet, _) = generate::damaged(seed);
         if sheet.len() > LONGEST_DEEP {
