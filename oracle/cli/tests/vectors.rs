@@ -144,3 +144,13 @@ fn all_that_should_be(titles: &BTreeSet<&str>) {
 fn the_same_bytes_every_time() {
     tix::with_big_stack(|| assert!(make().as_ref() == Ok(made())));
 }
+
+/// What the program vectors is run on in the gate.
+#[test]
+fn the_stored_files_are_these() {
+    let folder = std::path::Path::new(env!("CARGO_MANIFEST_DIR")).join("../../crates/vectors");
+    let stored = |name: &str| std::fs::read(folder.join(name)).expect(name);
+    let (input, output) = made();
+    assert!(stored("stdin") == *input, "stdin: `oracle vectors` writes it anew");
+    assert!(stored("stdout") == output.as_bytes(), "stdout: `oracle vectors` writes it anew");
+}
