@@ -1,9 +1,9 @@
--- `vectors::calls::run_calls` meets its contract. Written by a script from tools/answers_vectors.txt. Assumes nothing.
+-- `vectors::run_calls` meets its contract. Written by a script from tools/answers_vectors.txt. Assumes nothing.
 use borrow.Author.Needs.{needs}
 use native.Mathlib.Omega.{arith}
 use Prim.Native.Nat.{_≤_, _-_}
-use Rattle.vectors.proofs.calls.run_calls.Statement.{statement}
-use Rattle.vectors.proofs.calls.run_calls.Tie as tie
+use Rattle.vectors.proofs.run_calls.Statement.{statement}
+use Rattle.vectors.proofs.run_calls.Tie as tie
 
 abbrev Inv-loop : tie.InvT-loop
 Inv-loop list first count store₀ at₀ i₀ store at i = i ≤ count
