@@ -21,14 +21,14 @@ mod store;
 
 use std::process::ExitCode;
 
-const USAGE: &str = "host sheets DAMAGED VALID [SEED]    so many damaged and valid sheets, loaded or refused as the oracle's checker says
-host loads COUNT MAXNODES [SEED]    so many random sheets of up to so many nodes, and those that need care, loaded and read back
-host calls LOADS CALLS [SEED]       so many sheets loaded, and so many calls in all, each against the oracle's book
-host stores FILLS DAMAGED [SEED]    so many modules built in a store, and so many damaged stores, judged by both sides
-host any CALLS [SEED]               so many calls on any bytes, between pages that can't be touched
-host slow                           stores and sheets that are built to be slow
-host speed                          microseconds for a load, an asking and a change, beside the Rust's; and for the check of a store
-host stack                          bytes of stack that loading the deepest sheets takes";
+const USAGE: &str = "runs sheets DAMAGED VALID [SEED]    so many damaged and valid sheets, loaded or refused as the oracle's checker says
+runs loads COUNT MAXNODES [SEED]    so many random sheets of up to so many nodes, and those that need care, loaded and read back
+runs calls LOADS CALLS [SEED]       so many sheets loaded, and so many calls in all, each against the oracle's book
+runs stores FILLS DAMAGED [SEED]    so many modules built in a store, and so many damaged stores, judged by both sides
+runs any CALLS [SEED]               so many calls on any bytes, between pages that can't be touched
+runs slow                           stores and sheets that are built to be slow
+runs speed                          microseconds for a load, an asking and a change, beside the Rust's; and for the check of a store
+runs stack                          bytes of stack that loading the deepest sheets takes";
 
 fn main() -> ExitCode {
     let words: Vec<String> = std::env::args().skip(1).collect();

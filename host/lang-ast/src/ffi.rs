@@ -1,0 +1,81 @@
+//! The five calls of the archive, and all that is unsafe in this crate: turning slices into the pointers and lengths that the calls take.
+//!
+//! None of the calls forbids an argument: any bytes, any numbers, any lengths, none too. So each is safe to call with any slices, and what
+//! is left to see to is only that a pointer and a length belong together and that nothing else looks at a slice while it is written, which
+//! a Rust slice says of itself.
+
+#![allow(unsafe_code)]
+
+mod archive {
+    // A slice is two parameters, a pointer and a length, in the order of the table in docs/STORE.md.
+    #[rustfmt::skip]
+    extern "C" {
+        pub fn lang_ast_load(sheet: *const u8, sheet_length: usize, store: *mut u8, store_length: usize, reply: *mut u8, reply_length: usize) -> u32;
+        pub fn lang_ast_ask_reference(store: *const u8, store_length: usize, number: u32, buffer: *mut u8, buffer_length: usize, reply: *mut u8, reply_length: usize) -> u32;
+        pub fn lang_ast_ask_name(store: *const u8, store_length: usize, number: u32, buffer: *mut u8, buffer_length: usize, reply: *mut u8, reply_length: usize) -> u32;
+        pub fn lang_ast_change_reference(store: *mut u8, store_length: usize, number: u32, text: *const u8, text_length: usize, reply: *mut u8, reply_length: usize) -> u32;
+        pub fn lang_ast_change_name(store: *mut u8, store_length: usize, number: u32, text: *const u8, text_length: usize, reply: *mut u8, reply_length: usize) -> u32;
+    }
+}
+
+/// Loads a sheet into the store. The refusal's number, 0 for none.
+pub fn load(sheet: &[u8], store: &mut [u8], reply: &mut [u8]) -> u32 {
+    let (sheet, sheet_length) = (sheet.as_ptr(), sheet.len());
+    let (store, store_length) = (store.as_mut_ptr(), store.len());
+    // SAFETY: each pointer is its slice's, with that slice's length; what is written is borrowed mutably, so nothing else is in it. The
+    // call keeps no pointer after it returns.
+    unsafe { archive::lang_ast_load(sheet, sheet_length, store, store_length, reply.as_mut_ptr(), reply.len()) }
+}
+
+/// Asks what a Reference means. The refusal's number, 0 for none.
+pub fn ask_reference(store: &[u8], number: u32, buffer: &mut [u8], reply: &mut [u8]) -> u32 {
+    let (store, store_length) = (store.as_ptr(), store.len());
+    let (buffer, buffer_length) = (buffer.as_mut_ptr(), buffer.len());
+    // SAFETY: as for `load`. The store is read and never written, so a shared borrow is enough.
+    unsafe { archive::lang_ast_ask_reference(store, store_length, number, buffer, buffer_length, reply.as_mut_ptr(), reply.len()) }
+}
+
+/// Asks where a name is used. The refusal's number, 0 for none.
+pub fn ask_name(store: &[u8], number: u32, buffer: &mut [u8], reply: &mut [u8]) -> u32 {
+    let (store, store_length) = (store.as_ptr(), store.len());
+    let (buffer, buffer_length) = (buffer.as_mut_ptr(), buffer.len());
+    // SAFETY: as for `load`. The store is read and never written, so a shared borrow is enough.
+    unsafe { archive::lang_ast_ask_name(store, store_length, number, buffer, buffer_length, reply.as_mut_ptr(), reply.len()) }
+}
+
+/// Sets the text of a Reference. The refusal's number, 0 for none.
+pub fn change_reference(store: &mut [u8], number: u32, text: &[u8], reply: &mut [u8]) -> u32 {
+    let (store, store_length) = (store.as_mut_ptr(), store.len());
+    let (text, text_length) = (text.as_ptr(), text.len());
+    // SAFETY: as for `load`. The text is another slice than the store, since the store is borrowed mutably.
+    unsafe { archive::lang_ast_change_reference(store, store_length, number, text, text_length, reply.as_mut_ptr(), reply.len()) }
+}
+
+/// Sets the text of a name. The refusal's number, 0 for none.
+pub fn change_name(store: &mut [u8], number: u32, text: &[u8], reply: &mut [u8]) -> u32 {
+    let (store, store_length) = (store.as_mut_ptr(), store.len());
+    let (text, text_length) = (text.as_ptr(), text.len());
+    // SAFETY: as for `load`. The text is another slice than the store, since the store is borrowed mutably.
+    unsafe { archive::lang_ast_change_name(store, store_length, number, text, text_length, reply.as_mut_ptr(), reply.len()) }
+}
+
+#[cfg(test)]
+mod tests {
+    use super::*;
+    use crate::layout::{REPLY_BYTES, STORE_BYTES};
+
+    /// What the library never lends: replies and buffers that are too short.
+    #[test]
+    fn short_replies_and_buffers_are_refused() {
+        let (mut store, mut reply) = (vec![0; STORE_BYTES], [7; REPLY_BYTES]);
+        let sheet = b"nodes=3\nkind=21\nfrom=0\nto=9\nflag=0\nkids=1\ntext=\nkind=4\nfrom=0\nto=9\nflag=0\nkids=-,2\ntext=\n\
+            kind=18\nfrom=8\nto=9\nflag=1\nkids=\ntext=62\n";
+        assert_eq!(load(sheet, &mut store, &mut reply[1..]), 21);
+        assert_eq!(reply, [7; REPLY_BYTES]);
+        assert_eq!(load(sheet, &mut store, &mut reply), 0);
+        let mut buffer = [7; 3];
+        assert_eq!(ask_reference(&store, 1, &mut buffer, &mut reply), 26);
+        assert_eq!(reply, [26, 0, 0, 0, 1, 0, 0, 0, 0, 0, 0, 0, 0, 0, 0, 0, 0, 0, 0, 0]);
+        assert_eq!(buffer, [7; 3]);
+    }
+}

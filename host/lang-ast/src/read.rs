@@ -1,0 +1,341 @@
+//! What a store holds, read from its bytes by docs/STORE.md, without a call.
+//!
+//! Nothing here checks the store, and nothing here panics: of a store that the calls refuse, a reader gives what can be read of it, and none
+//! where a number is not one that the page lets be there.
+
+use crate::answer::{Answer, Builtin};
+use crate::expr::{Expr, Row, HOLE};
+use crate::ids::{ExprId, NameId, ScopeId};
+use crate::layout::{self, header};
+use crate::page::{below, one_less, Page, Pointer};
+use crate::store::Store;
+
+/// A name: something that is defined, or an attribute of a set.
+#[derive(Debug, Clone, Copy, PartialEq, Eq, Hash)]
+pub struct Name<'a> {
+    /// How it is written now.
+    pub text: &'a [u8],
+    /// What defines it.
+    pub kind: NameKind,
+    /// The node that defines it.
+    pub pointer: Pointer,
+}
+
+/// What defines a name.
+#[derive(Debug, Clone, Copy, PartialEq, Eq, PartialOrd, Ord, Hash)]
+pub enum NameKind {
+    /// A let.
+    LetIn,
+    /// A set that is not rec. No Reference means such a name.
+    PlainAttrset,
+    /// A set that is rec.
+    RecAttrset,
+    /// The parameter of a function.
+    Param,
+    /// A field of a function's pattern.
+    PatField,
+}
+
+impl NameKind {
+    fn from_number(number: u32) -> Option<Self> {
+        Some(match number {
+            0 => NameKind::LetIn,
+            1 => NameKind::PlainAttrset,
+            2 => NameKind::RecAttrset,
+            3 => NameKind::Param,
+            4 => NameKind::PatField,
+            _ => return None,
+        })
+    }
+
+    /// Whether a Reference can mean a name of this kind: all but those of plain sets.
+    pub const fn is_definition(self) -> bool {
+        !matches!(self, NameKind::PlainAttrset)
+    }
+}
+
+/// A key that a set or a let has twice.
+#[derive(Debug, Clone, Copy, PartialEq, Eq, Hash)]
+pub struct DuplicateKey<'a> {
+    /// The key as loaded.
+    pub key: &'a [u8],
+    /// The node that had it first.
+    pub first: Pointer,
+    /// The node that has it again.
+    pub second: Pointer,
+}
+
+/// A scope: what an expression finds names in.
+#[derive(Debug, Clone, PartialEq, Eq)]
+pub struct Scope {
+    /// The scope around it, whose number is lower; none for scope 0.
+    pub parent: Option<ScopeId>,
+    /// What is found in it.
+    pub kind: ScopeKind,
+}
+
+/// What is found in a scope.
+#[derive(Debug, Clone, PartialEq, Eq)]
+pub enum ScopeKind {
+    /// These names, in the order in which they were entered: of equal texts the last is meant.
+    Definitions(Vec<NameId>),
+    /// The attributes of this With's namespace.
+    WithExpr(ExprId),
+}
+
+impl Store {
+    fn page(&self) -> Page<'_> {
+        Page::new(self.as_bytes())
+    }
+
+    /// How many expressions there are.
+    pub fn expr_count(&self) -> u32 {
+        self.page().exprs()
+    }
+
+    /// How many names there are.
+    pub fn name_count(&self) -> u32 {
+        self.page().names()
+    }
+
+    /// How many scopes there are.
+    pub fn scope_count(&self) -> u32 {
+        self.page().scopes()
+    }
+
+    /// All expressions, by their numbers.
+    pub fn exprs(&self) -> impl DoubleEndedIterator<Item = ExprId> {
+        (0..self.expr_count()).map(ExprId)
+    }
+
+    /// All names, by their numbers.
+    pub fn names(&self) -> impl DoubleEndedIterator<Item = NameId> {
+        (0..self.name_count()).map(NameId)
+    }
+
+    /// All scopes, by their numbers.
+    pub fn scopes(&self) -> impl DoubleEndedIterator<Item = ScopeId> {
+        (0..self.scope_count()).map(ScopeId)
+    }
+
+    /// All References with their texts, by their numbers.
+    ///
+    /// ```
+    /// # let store = lang_ast::Store::load(&std::fs::read("../../examples/lambda.sheet")?)?;
+    /// let all: Vec<_> = store.references().collect();
+    /// assert_eq!(all, [(lang_ast::ExprId(0), b"x".as_slice())]);
+    /// # Ok::<(), Box<dyn std::error::Error>>(())
+    /// ```
+    pub fn references(&self) -> impl DoubleEndedIterator<Item = (ExprId, &[u8])> {
+        self.exprs().filter_map(|expr| Some((expr, self.reference_text(expr)?)))
+    }
+
+    /// The text of a Reference; none where the expression is none.
+    pub fn reference_text(&self, expr: ExprId) -> Option<&[u8]> {
+        Row::of(self.page(), expr)?.reference()
+    }
+
+    /// The expression that the whole file is.
+    pub fn entry(&self) -> Option<ExprId> {
+        below(self.page().word(header::ENTRY)?, self.expr_count()).map(ExprId)
+    }
+
+    /// An expression.
+    ///
+    /// ```
+    /// # let store = lang_ast::Store::load(&std::fs::read("../../examples/lambda.sheet")?)?;
+    /// use lang_ast::{Expr, ExprId, NameId};
+    /// let lambda = Expr::Lambda { param: Some(NameId(0)), pat: None, body: ExprId(0) };
+    /// assert_eq!(store.expr(ExprId(1)), Some(lambda));
+    /// assert_eq!(store.expr(ExprId(0)), Some(Expr::Reference(b"x")));
+    /// assert_eq!(store.expr(ExprId(2)), None);
+    /// # Ok::<(), Box<dyn std::error::Error>>(())
+    /// ```
+    pub fn expr(&self, expr: ExprId) -> Option<Expr<'_>> {
+        Row::of(self.page(), expr)?.expr()
+    }
+
+    /// The node of an expression; none for a Missing that stands for a node that is not there.
+    pub fn expr_pointer(&self, expr: ExprId) -> Option<Pointer> {
+        let sort = Row::of(self.page(), expr)?.sort()?;
+        if sort == HOLE {
+            return None;
+        }
+        self.page().pointer(layout::EXPR_POINTERS, expr.0, 0)
+    }
+
+    /// The expression of a node. Of several with the same pointer it is the last, as the Rust's map keeps the last writer.
+    ///
+    /// ```
+    /// # let store = lang_ast::Store::load(&std::fs::read("../../examples/lambda.sheet")?)?;
+    /// use lang_ast::{ExprId, Kind, Pointer};
+    /// let body = Pointer::new(Kind::ident("x").number(), 3, 4);
+    /// assert_eq!(store.expr_at(body), Some(ExprId(0)));
+    /// # Ok::<(), Box<dyn std::error::Error>>(())
+    /// ```
+    pub fn expr_at(&self, pointer: Pointer) -> Option<ExprId> {
+        self.exprs().rev().find(|&expr| self.expr_pointer(expr) == Some(pointer))
+    }
+
+    /// A name.
+    pub fn name(&self, name: NameId) -> Option<Name<'_>> {
+        let (page, row) = (self.page(), below(name.0, self.name_count())?);
+        let text = page.text(page.field(layout::NAMES, row, 0)?);
+        let kind = NameKind::from_number(page.field(layout::NAMES, row, 1)?)?;
+        Some(Name { text, kind, pointer: self.name_pointer(name)? })
+    }
+
+    fn name_pointer(&self, name: NameId) -> Option<Pointer> {
+        self.page().pointer(layout::NAME_POINTERS, name.0, 0)
+    }
+
+    /// The name of a node. Of several with the same pointer it is the last, as the Rust's map keeps the last writer.
+    ///
+    /// ```
+    /// # let store = lang_ast::Store::load(&std::fs::read("../../examples/lambda.sheet")?)?;
+    /// use lang_ast::{Kind, NameId, Pointer};
+    /// let parameter = Pointer::new(Kind::ident("x").number(), 0, 1);
+    /// assert_eq!(store.name_at(parameter), Some(NameId(0)));
+    /// # Ok::<(), Box<dyn std::error::Error>>(())
+    /// ```
+    pub fn name_at(&self, pointer: Pointer) -> Option<NameId> {
+        self.names().rev().find(|&name| self.name_pointer(name) == Some(pointer))
+    }
+
+    /// The keys that a set or a let has twice.
+    pub fn diagnostics(&self) -> impl DoubleEndedIterator<Item = DuplicateKey<'_>> {
+        let page = self.page();
+        (0..page.count(header::DIAGNOSTICS, layout::DIAGNOSTICS)).filter_map(move |row| {
+            let key = page.text(page.field(layout::DIAGNOSTICS, row, 0)?);
+            let (first, second) = (page.pointer(layout::DIAGNOSTICS, row, 1)?, page.pointer(layout::DIAGNOSTICS, row, 4)?);
+            Some(DuplicateKey { key, first, second })
+        })
+    }
+
+    /// The lost list: for each key that is there twice, the node whose value was replaced.
+    pub fn lost(&self) -> impl DoubleEndedIterator<Item = Pointer> + '_ {
+        let page = self.page();
+        (0..page.count(header::LOST, layout::LOST)).filter_map(move |row| page.pointer(layout::LOST, row, 0))
+    }
+
+    /// A scope.
+    ///
+    /// ```
+    /// # let store = lang_ast::Store::load(&std::fs::read("../../examples/lambda.sheet")?)?;
+    /// use lang_ast::{NameId, Scope, ScopeId, ScopeKind};
+    /// let scope = Scope { parent: Some(ScopeId(0)), kind: ScopeKind::Definitions(vec![NameId(0)]) };
+    /// assert_eq!(store.scope(ScopeId(1)), Some(scope));
+    /// # Ok::<(), Box<dyn std::error::Error>>(())
+    /// ```
+    pub fn scope(&self, scope: ScopeId) -> Option<Scope> {
+        let parent = self.parent(scope)?;
+        let kind = match self.with_of(scope)? {
+            Some(with) => ScopeKind::WithExpr(with),
+            None => ScopeKind::Definitions(self.entered(scope)?),
+        };
+        Some(Scope { parent, kind })
+    }
+
+    /// A field of a scope that is 0 for none, else one more than a number below `end`; none at all where it is neither.
+    fn scope_field(&self, scope: ScopeId, place: usize, end: u32) -> Option<Option<u32>> {
+        let row = below(scope.0, self.scope_count())?;
+        match self.page().field(layout::SCOPES, row, place)? {
+            0 => Some(None),
+            word => one_less(word, end).map(Some),
+        }
+    }
+
+    /// The scope around a scope. Its number is lower, so going up ends whatever the bytes are.
+    fn parent(&self, scope: ScopeId) -> Option<Option<ScopeId>> {
+        Some(self.scope_field(scope, 1, scope.0)?.map(ScopeId))
+    }
+
+    /// The With that a scope is for.
+    fn with_of(&self, scope: ScopeId) -> Option<Option<ExprId>> {
+        Some(self.scope_field(scope, 2, self.expr_count())?.map(ExprId))
+    }
+
+    /// The names of a scope's list, in the order of entering.
+    fn entered(&self, scope: ScopeId) -> Option<Vec<NameId>> {
+        let (page, names) = (self.page(), self.name_count());
+        let mut rows = page.list(layout::SCOPES, scope.0, layout::ENTERED)?;
+        rows.try_fold(Vec::new(), |mut entered, row| {
+            entered.push(NameId(below(page.field(layout::ENTERED, row, 0)?, names)?));
+            Some(entered)
+        })
+    }
+
+    /// The scope in which an expression finds names; none for one that is not walked.
+    pub fn scope_of(&self, expr: ExprId) -> Option<ScopeId> {
+        let row = below(expr.0, self.expr_count())?;
+        one_less(self.page().field(layout::USES, row, 0)?, self.scope_count()).map(ScopeId)
+    }
+
+    /// A scope and those around it, innermost first.
+    pub fn scopes_around(&self, scope: ScopeId) -> impl Iterator<Item = ScopeId> + '_ {
+        let first = below(scope.0, self.scope_count()).map(ScopeId);
+        std::iter::successors(first, |&inner| self.parent(inner).flatten())
+    }
+
+    /// The Withs around an expression, innermost first.
+    pub fn withs_around(&self, expr: ExprId) -> Vec<ExprId> {
+        let innermost = self.scope_of(expr).into_iter();
+        innermost.flat_map(|scope| self.scopes_around(scope)).filter_map(|scope| self.with_of(scope).flatten()).collect()
+    }
+
+    /// The scope that a name was entered in; none for a name of a set that is not rec.
+    ///
+    /// ```
+    /// # let store = lang_ast::Store::load(&std::fs::read("../../examples/lambda.sheet")?)?;
+    /// use lang_ast::{NameId, ScopeId};
+    /// assert_eq!(store.scope_holding(NameId(0)), Some(ScopeId(1)));
+    /// # Ok::<(), Box<dyn std::error::Error>>(())
+    /// ```
+    pub fn scope_holding(&self, name: NameId) -> Option<ScopeId> {
+        self.scopes().find(|&scope| match self.scope(scope) {
+            Some(Scope { kind: ScopeKind::Definitions(names), .. }) => names.contains(&name),
+            _ => false,
+        })
+    }
+
+    /// What a Reference means by the answer that is kept: what [`Store::ask_reference`] says, without the check of the store. None where
+    /// the expression is no Reference.
+    pub fn kept_answer(&self, expr: ExprId) -> Option<Answer> {
+        self.reference_text(expr)?;
+        Some(match self.page().field(layout::USES, expr.0, 1)? {
+            0 => Answer::None,
+            1 => Answer::Withs(self.withs_around(expr)),
+            word => match Builtin::from_index(word - 2) {
+                Some(builtin) => Answer::Builtin(builtin),
+                None => Answer::Definition(NameId(below(word - 2 - Builtin::COUNT, self.name_count())?)),
+            },
+        })
+    }
+
+    /// The References that are kept for a name, ascending: what [`Store::ask_name`] says, without the check of the store.
+    pub fn kept_references(&self, name: NameId) -> Option<Vec<ExprId>> {
+        let (page, exprs) = (self.page(), self.expr_count());
+        let mut rows = page.list(layout::REFERENCES, below(name.0, self.name_count())?, layout::KEPT)?;
+        rows.try_fold(Vec::new(), |mut kept, row| {
+            kept.push(ExprId(below(page.field(layout::KEPT, row, 0)?, exprs)?));
+            Some(kept)
+        })
+    }
+
+    /// How many bytes of texts the changes since the load have, at most [`CHANGE_ROOM`](crate::CHANGE_ROOM).
+    pub fn room_spent(&self) -> u32 {
+        self.page().word(header::SPENT).unwrap_or_default().min(layout::CHANGE_ROOM)
+    }
+
+    /// How many bytes of texts further changes may have.
+    ///
+    /// ```
+    /// # let mut store = lang_ast::Store::load(&std::fs::read("../../examples/lambda.sheet")?)?;
+    /// store.change_name(lang_ast::NameId(0), b"long")?;
+    /// assert_eq!((store.room_spent(), store.room_left()), (4, 8_188));
+    /// # Ok::<(), Box<dyn std::error::Error>>(())
+    /// ```
+    pub fn room_left(&self) -> u32 {
+        layout::CHANGE_ROOM - self.room_spent()
+    }
+}

@@ -1,0 +1,148 @@
+//! Why a call was refused.
+
+use std::error::Error;
+use std::fmt;
+
+/// A refusal: its number, and the place that goes with the number. What was refused has changed nothing.
+///
+/// ```
+/// use lang_ast::{Reason, Refusal, Store};
+/// let refusal = Store::load(b"nodes=0\n").err();
+/// assert_eq!(refusal, Some(Refusal { number: 3, place: 0 }));
+/// assert_eq!(refusal.and_then(|refusal| refusal.reason()), Some(Reason::Value));
+/// ```
+#[derive(Debug, Clone, Copy, PartialEq, Eq, Hash, PartialOrd, Ord)]
+pub struct Refusal {
+    /// Which refusal it is: 1 to 7 are of the sheet, 8 and 21 to 27 of the other calls.
+    pub number: u32,
+    /// Where, or how much: what [`Reason`] says for the number; 0 where it says nothing.
+    pub place: u32,
+}
+
+/// What the number of a refusal stands for.
+#[derive(Debug, Clone, Copy, PartialEq, Eq, Hash, PartialOrd, Ord)]
+#[non_exhaustive]
+pub enum Reason {
+    /// 1: the sheet has more than 1,048,576 bytes.
+    SheetTooLong,
+    /// 2: a line of the sheet is without its key, form or end, or bytes follow the last line. The place is the line's first byte.
+    Form,
+    /// 3: a value on a line of the sheet is out of its range or against its kind's rule. The place is the line's first byte.
+    Value,
+    /// 4: a node has too few or too many kids. The place is the node.
+    KidCount,
+    /// 5: a kid is not the next node, or not of a kind that its place takes, or absent in a list. The place is the parent.
+    WrongKid,
+    /// 6: a node lies deeper than 256. The place is its parent.
+    TooDeep,
+    /// 7: nodes are no part of the tree. The place is the lowest of them.
+    NotMet,
+    /// 8: a new text has more than 255 bytes. The place is 255.
+    TextTooLong,
+    /// 21: the store is too short.
+    StoreTooShort,
+    /// 22: the store holds a number that it must not.
+    StoreUnsound,
+    /// 23: no sheet is loaded.
+    NothingLoaded,
+    /// 24: there is no such expression or name. The place is the number that was asked for.
+    NoSuchNumber,
+    /// 25: the expression is no Reference. The place is its number.
+    NotAReference,
+    /// 26: the list is longer than the buffer. The place is its length. This library then lends a longer one and asks again, so its
+    /// callers never see it.
+    BufferTooShort,
+    /// 27: the texts of all changes since the load would come to more than 8,192 bytes.
+    RoomSpent,
+}
+
+impl Refusal {
+    /// What the number stands for; none where this library doesn't know it.
+    pub fn reason(self) -> Option<Reason> {
+        Some(match self.number {
+            1 => Reason::SheetTooLong,
+            2 => Reason::Form,
+            3 => Reason::Value,
+            4 => Reason::KidCount,
+            5 => Reason::WrongKid,
+            6 => Reason::TooDeep,
+            7 => Reason::NotMet,
+            8 => Reason::TextTooLong,
+            21 => Reason::StoreTooShort,
+            22 => Reason::StoreUnsound,
+            23 => Reason::NothingLoaded,
+            24 => Reason::NoSuchNumber,
+            25 => Reason::NotAReference,
+            26 => Reason::BufferTooShort,
+            27 => Reason::RoomSpent,
+            _ => return None,
+        })
+    }
+
+    /// Whether the sheet is the reason: 1 to 7.
+    pub fn is_of_the_sheet(self) -> bool {
+        (1..=7).contains(&self.number)
+    }
+
+    /// Whether the store itself is the reason, whatever it is asked: 21 to 23.
+    pub fn is_of_the_store(self) -> bool {
+        (21..=23).contains(&self.number)
+    }
+
+    /// What the linked archive never says if it is the one that this library was written for. It stands for a reply that can't be read, so
+    /// that such a reply is no panic.
+    pub(crate) const UNKNOWN: Refusal = Refusal { number: u32::MAX, place: 0 };
+}
+
+impl fmt::Display for Refusal {
+    fn fmt(&self, f: &mut fmt::Formatter<'_>) -> fmt::Result {
+        let place = self.place;
+        let Some(reason) = self.reason() else {
+            return write!(f, "the archive answered {}, which this library doesn't know: are they of one version?", self.number);
+        };
+        match reason {
+            Reason::SheetTooLong => write!(f, "the sheet has more than 1,048,576 bytes"),
+            Reason::Form => write!(f, "the sheet's line at byte {place} is not written as it should be, or should not be there"),
+            Reason::Value => {
+                write!(f, "the sheet's line at byte {place} has a value that is out of its range or that its node may not have")
+            }
+            Reason::KidCount => write!(f, "node {place} of the sheet has too few or too many kids"),
+            Reason::WrongKid => write!(f, "node {place} of the sheet has a kid that is out of order, of the wrong kind or wrongly absent"),
+            Reason::TooDeep => write!(f, "node {place} of the sheet has a kid deeper than 256 levels"),
+            Reason::NotMet => write!(f, "node {place} of the sheet is no part of its tree"),
+            Reason::TextTooLong => write!(f, "the new text has more than {place} bytes"),
+            Reason::StoreTooShort => write!(f, "the store has fewer bytes than a store needs"),
+            Reason::StoreUnsound => write!(f, "the store's bytes are damaged or of no store"),
+            Reason::NothingLoaded => write!(f, "nothing is loaded"),
+            Reason::NoSuchNumber => write!(f, "nothing has the number {place}"),
+            Reason::NotAReference => write!(f, "expression {place} is no Reference"),
+            Reason::BufferTooShort => write!(f, "the list has {place} numbers, for which the buffer is too short"),
+            Reason::RoomSpent => write!(f, "the texts of all changes since the load would have more than 8,192 bytes: load again"),
+        }
+    }
+}
+
+impl Error for Refusal {}
+
+#[cfg(test)]
+mod tests {
+    use super::*;
+
+    #[test]
+    fn each_number_has_its_sentence() {
+        let numbers: Vec<u32> = (0..100).filter(|&number| Refusal { number, place: 9 }.reason().is_some()).collect();
+        assert_eq!(numbers, [1, 2, 3, 4, 5, 6, 7, 8, 21, 22, 23, 24, 25, 26, 27]);
+        let mut sentences: Vec<String> = numbers.iter().map(|&number| Refusal { number, place: 9 }.to_string()).collect();
+        sentences.sort();
+        sentences.dedup();
+        assert_eq!(sentences.len(), numbers.len());
+        assert!(Refusal::UNKNOWN.to_string().contains("of one version"));
+    }
+
+    #[test]
+    fn numbers_are_of_the_sheet_or_of_the_store() {
+        let of = |test: fn(Refusal) -> bool| (0..100).filter(move |&number| test(Refusal { number, place: 0 })).collect::<Vec<u32>>();
+        assert_eq!(of(Refusal::is_of_the_sheet), [1, 2, 3, 4, 5, 6, 7]);
+        assert_eq!(of(Refusal::is_of_the_store), [21, 22, 23]);
+    }
+}
