@@ -1,0 +1,191 @@
+//! The five calls: every refusal, long lists, and changes that are followed.
+
+mod common;
+
+use common::{sheet, store};
+use lang_ast::{Answer, Builtin, ExprId, NameId, Reason, Refusal, Store, CHANGE_ROOM, STORE_BYTES, TEXT_LIMIT};
+
+/// `x: x`
+const IDENTITY: &str = r#"21(11(28(18"x"),18"x"))"#;
+
+fn refused<T: std::fmt::Debug>(outcome: Result<T, Refusal>) -> (u32, u32) {
+    let refusal = outcome.expect_err("this is to be refused");
+    assert!(refusal.reason().is_some(), "{refusal}");
+    (refusal.number, refusal.place)
+}
+
+fn load(bytes: &[u8]) -> (u32, u32) {
+    refused(Store::load(bytes))
+}
+
+#[test]
+fn sheets_are_refused_with_1_to_7() {
+    let deep = |parens: usize| format!("21({}10{})", "15(".repeat(parens), ")".repeat(parens));
+    assert_eq!(load(&vec![b'x'; 1_048_577]), (1, 0));
+    assert_eq!(load(b""), (2, 0));
+    assert_eq!(load(b"nodes=1\nkind=21\nfrom"), (2, 16));
+    assert_eq!(load(b"nodes=1\nkind=20\n"), (3, 8));
+    assert_eq!(load(&sheet("21()")), (4, 0));
+    assert_eq!(load(&sheet(r#"21(4(18"a"))"#)), (4, 1));
+    assert_eq!(load(&sheet("21(23())")), (5, 0));
+    assert_eq!(load(&sheet("21(13(-))")), (5, 1));
+    assert!(Store::load(&sheet(&deep(254))).is_ok());
+    assert_eq!(load(&sheet(&deep(255))), (6, 255));
+    let mut unmet = sheet("21(10)");
+    unmet.splice(0..7, *b"nodes=3");
+    unmet.extend(b"kind=10\nfrom=0\nto=0\nflag=0\nkids=\ntext=\n");
+    assert_eq!(load(&unmet), (7, 2));
+}
+
+#[test]
+fn texts_are_refused_with_8() {
+    let mut store = store(IDENTITY);
+    let (longest, too_long) = (vec![b'y'; TEXT_LIMIT], vec![b'y'; TEXT_LIMIT + 1]);
+    assert_eq!(refused(store.change_name(NameId(0), &too_long)), (8, 255));
+    assert_eq!(refused(store.change_reference(ExprId(0), &too_long)), (8, 255));
+    assert_eq!(store.change_name(NameId(0), &longest), Ok(()));
+    assert_eq!(store.change_reference(ExprId(0), &longest), Ok(()));
+}
+
+/// All four calls on a store that they refuse.
+fn refusals(store: &mut Store) -> [(u32, u32); 4] {
+    [
+        refused(store.ask_reference(ExprId(0))),
+        refused(store.ask_name(NameId(0))),
+        refused(store.change_reference(ExprId(0), b"y")),
+        refused(store.change_name(NameId(0), b"y")),
+    ]
+}
+
+#[test]
+fn stores_are_refused_with_21_to_23() {
+    let mut short = store(IDENTITY).into_bytes();
+    short.truncate(STORE_BYTES - 1);
+    assert_eq!(refusals(&mut Store::from_bytes(short.clone())), [(21, 0); 4]);
+    assert_eq!(refused(Store::from_bytes(short).reload(&sheet(IDENTITY))), (21, 0));
+    assert_eq!(refusals(&mut Store::from_bytes(Vec::new())), [(21, 0); 4]);
+    assert_eq!(refusals(&mut Store::from_bytes(vec![255; STORE_BYTES])), [(22, 0); 4]);
+    assert_eq!(refusals(&mut Store::empty()), [(23, 0); 4]);
+    assert_eq!(Store::default().check(), Err(Refusal { number: 23, place: 0 }));
+    assert_eq!(store(IDENTITY).check(), Ok(()));
+}
+
+#[test]
+fn numbers_are_refused_with_24_and_25() {
+    let mut store = store(IDENTITY);
+    assert_eq!(refused(store.ask_reference(ExprId(2))), (24, 2));
+    assert_eq!(refused(store.ask_name(NameId(1))), (24, 1));
+    assert_eq!(refused(store.change_reference(ExprId(u32::MAX), b"y")), (24, u32::MAX));
+    assert_eq!(refused(store.change_name(NameId(1), b"y")), (24, 1));
+    assert_eq!(refused(store.ask_reference(ExprId(1))), (25, 1));
+    assert_eq!(refused(store.change_reference(ExprId(1), b"y")), (25, 1));
+}
+
+#[test]
+fn the_change_room_is_refused_with_27_and_free_again_after_a_load() {
+    let mut store = store(IDENTITY);
+    let text = |number: u8, length: u32| vec![number; length as usize];
+    for number in 0..32 {
+        assert_eq!(store.change_name(NameId(0), &text(number, 255)), Ok(()));
+    }
+    assert_eq!((store.room_spent(), store.room_left()), (32 * 255, CHANGE_ROOM - 32 * 255));
+    assert_eq!(refused(store.change_name(NameId(0), &text(99, store.room_left() + 1))), (27, 0));
+    assert_eq!(refused(store.change_reference(ExprId(0), &text(99, store.room_left() + 1))), (27, 0));
+    assert_eq!(store.change_reference(ExprId(0), &text(98, store.room_left())), Ok(()));
+    assert_eq!(store.room_left(), 0);
+    assert_eq!(Refusal { number: 27, place: 0 }.reason(), Some(Reason::RoomSpent));
+    // An equal text and an empty one take no room.
+    assert_eq!(store.change_name(NameId(0), &text(31, 255)), Ok(()));
+    assert_eq!(store.change_name(NameId(0), b""), Ok(()));
+    assert_eq!(refused(store.change_name(NameId(0), b"y")), (27, 0));
+    assert_eq!(store.reload(&sheet(IDENTITY)), Ok(()));
+    assert_eq!(store.room_left(), CHANGE_ROOM);
+    assert_eq!(store.change_name(NameId(0), b"y"), Ok(()));
+}
+
+#[test]
+fn withs_that_no_first_buffer_holds_are_listed() {
+    for withs in [1, 31, 32, 33, 60, 200] {
+        let notation = format!(r#"21({}18"q"{})"#, r#"4(18"a","#.repeat(withs), ")".repeat(withs));
+        let store = store(&notation);
+        let (reference, _) = store.references().find(|(_, text)| text == b"q").expect("q is there");
+        let Ok(Answer::Withs(list)) = store.ask_reference(reference) else { panic!("{withs} Withs are around q") };
+        assert_eq!(list.len(), withs);
+        assert!(list.windows(2).all(|pair| pair[0] < pair[1]), "innermost first: {list:?}");
+        assert_eq!(store.kept_answer(reference), Some(Answer::Withs(list)));
+    }
+}
+
+#[test]
+fn references_that_no_first_buffer_holds_are_listed() {
+    for count in [0, 31, 32, 33, 3_000] {
+        let items = vec![r#"18"x""#; count].join(",");
+        let store = store(&format!(r#"21(11(28(18"x"),13({items})))"#));
+        let listed = store.ask_name(NameId(0)).expect("there is a name");
+        assert_eq!(listed, store.references().map(|(expr, _)| expr).collect::<Vec<_>>());
+        assert_eq!(listed.len(), count);
+        assert_eq!(store.kept_references(NameId(0)), Some(listed));
+    }
+}
+
+#[test]
+fn builtins_are_answered_by_their_names() {
+    for builtin in Builtin::all() {
+        let store = store(&format!(r#"21(18"{builtin}")"#));
+        assert_eq!(store.ask_reference(ExprId(0)), Ok(Answer::Builtin(builtin)));
+        assert_eq!(store.kept_answer(ExprId(0)), Some(Answer::Builtin(builtin)));
+    }
+}
+
+/// Renamed, renamed back and followed again, with a definition around that shows while the inner one has another name.
+#[test]
+fn a_name_that_is_renamed_and_back_is_found_again() {
+    let mut store = store(r#"21(11(28(18"x"),11(28(18"x"),13(18"x",18"y"))))"#);
+    let [x, y] = [0, 1].map(|index| store.references().nth(index).expect("two References").0);
+    let found = |store: &Store, reference| store.ask_reference(reference).expect("a Reference").definition();
+    let inner = found(&store, x).expect("x is defined");
+    let outer = store.names().find(|&name| name != inner).expect("there are two names");
+    assert_eq!((found(&store, y), store.ask_name(outer)), (None, Ok(vec![])));
+
+    store.change_name(inner, b"y").expect("there is room");
+    assert_eq!((found(&store, x), found(&store, y)), (Some(outer), Some(inner)));
+    assert_eq!((store.ask_name(outer), store.ask_name(inner)), (Ok(vec![x]), Ok(vec![y])));
+
+    store.change_name(inner, b"x").expect("there is room");
+    assert_eq!((found(&store, x), found(&store, y)), (Some(inner), None));
+    assert_eq!((store.ask_name(outer), store.ask_name(inner)), (Ok(vec![]), Ok(vec![x])));
+    assert_eq!(store.name(inner).map(|name| name.text), Some(b"x".as_slice()));
+    assert_eq!(store.room_spent(), 2);
+}
+
+#[test]
+fn a_clone_is_independent() {
+    let mut first = store(IDENTITY);
+    let mut second = first.clone();
+    first.change_name(NameId(0), b"y").expect("there is room");
+    assert_eq!(first.ask_reference(ExprId(0)), Ok(Answer::None));
+    assert_eq!(second.ask_reference(ExprId(0)), Ok(Answer::Definition(NameId(0))));
+    second.reload(&sheet("21(10)")).expect("a sheet");
+    assert_eq!((first.name_count(), second.name_count()), (1, 0));
+}
+
+#[test]
+fn a_refused_reload_or_change_leaves_every_byte() {
+    let mut store = store(IDENTITY);
+    store.change_name(NameId(0), b"y").expect("there is room");
+    let before = store.as_bytes().to_vec();
+    assert_eq!(refused(store.reload(b"nodes=1\n")), (2, 8));
+    assert_eq!(refused(store.reload(&sheet("21(13(-))"))), (5, 1));
+    assert_eq!(refused(store.change_name(NameId(0), &[b'z'; 256])), (8, 255));
+    assert_eq!(refused(store.change_reference(ExprId(1), b"z")), (25, 1));
+    assert!(store.as_bytes() == before);
+}
+
+/// A sheet of one thread's store is loaded in another with the stack that threads have.
+#[test]
+fn stores_go_from_thread_to_thread() {
+    let deep = sheet(&format!("21({}10{})", "15(".repeat(254), ")".repeat(254)));
+    let store = std::thread::spawn(move || Store::load(&deep)).join().expect("no panic").expect("a sheet");
+    assert_eq!(store.expr_count(), 1);
+    assert!(format!("{store:?}").len() < 100);
+}
