@@ -1,0 +1,63 @@
+//! The header and the archive for a host in C: tests/c/follow.c, compiled and run. Skipped where there is no C compiler.
+
+use std::path::{Path, PathBuf};
+use std::process::Command;
+
+/// What the host prints.
+const FOLLOWED: &str = "\
+ask too early: refusal 23, place 0, answer 0, to 0, length 0
+load: refusal 0, place 0, answer 0, to 0, length 0
+ask e0: refusal 0, place 0, answer 1, to 0, length 0
+ask n0: refusal 0, place 0, answer 0, to 0, length 1
+first use: e0
+name n0 y: refusal 0, place 0, answer 0, to 0, length 0
+ask e0: refusal 0, place 0, answer 0, to 0, length 0
+ask n0: refusal 0, place 0, answer 0, to 0, length 0
+name e0 y: refusal 0, place 0, answer 0, to 0, length 0
+ask e0: refusal 0, place 0, answer 1, to 0, length 0
+ask n0: refusal 0, place 0, answer 0, to 0, length 1
+ask without a buffer: refusal 26, place 1, answer 0, to 0, length 0
+";
+
+fn run(command: &mut Command) -> String {
+    let output = command.output().unwrap_or_else(|why| panic!("{command:?}: {why}"));
+    let (said, complained) = (String::from_utf8_lossy(&output.stdout), String::from_utf8_lossy(&output.stderr));
+    assert!(output.status.success(), "{command:?}\n{said}{complained}");
+    said.into_owned()
+}
+
+/// The C compiler: what CC names, or `cc`; none where there is none.
+fn compiler() -> Option<String> {
+    let compiler = std::env::var("CC").unwrap_or_else(|_| "cc".to_string());
+    Command::new(&compiler).arg("--version").output().is_ok().then_some(compiler)
+}
+
+#[test]
+fn a_host_in_c_follows_a_name() {
+    let Some(compiler) = compiler() else {
+        eprintln!("skipped: there is no C compiler here, neither `cc` nor what CC names");
+        return;
+    };
+    let crate_folder = Path::new(env!("CARGO_MANIFEST_DIR"));
+    let program: PathBuf = Path::new(env!("CARGO_TARGET_TMPDIR")).join("follow");
+    let mut compile = Command::new(compiler);
+    compile.args(["-std=c99", "-Wall", "-Wextra", "-Werror", "-pedantic", "-I"]).arg(crate_folder.join("include"));
+    compile.arg(crate_folder.join("tests/c/follow.c")).arg(env!("LANG_AST_ARCHIVE_FILE")).arg("-o").arg(&program);
+    run(&mut compile);
+    let followed = run(Command::new(&program).arg(crate_folder.join("../../examples/lambda.sheet")));
+    assert_eq!(followed, FOLLOWED);
+}
+
+/// The numbers that the header repeats are the library's.
+#[test]
+fn the_header_has_the_librarys_numbers() {
+    let header = include_str!("../include/lang_ast.h");
+    let defined = |name: &str| -> Option<usize> {
+        let mut lines = header.lines().filter_map(|line| line.strip_prefix("#define LANG_AST_"));
+        lines.find_map(|line| line.strip_prefix(name)?.strip_prefix(' ')?.split(' ').next()?.parse().ok())
+    };
+    assert_eq!(defined("STORE_BYTES"), Some(lang_ast::STORE_BYTES));
+    assert_eq!(defined("TEXT_LIMIT"), Some(lang_ast::TEXT_LIMIT));
+    assert_eq!(defined("CHANGE_ROOM"), Some(lang_ast::CHANGE_ROOM as usize));
+    assert_eq!(defined("REPLY_BYTES"), Some(20));
+}
