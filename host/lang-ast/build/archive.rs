@@ -4,6 +4,7 @@
 //! and if it is not there, but `rt` is, `rt staticlib lang_ast` makes it there.
 
 use std::env;
+use std::fs::{create_dir_all, File};
 use std::path::{Path, PathBuf};
 use std::process::{exit, Command};
 
@@ -32,7 +33,12 @@ fn found() -> Result<PathBuf, String> {
     let root = Path::new(env!("CARGO_MANIFEST_DIR")).join("../..");
     let archive = root.join("target/staticlib").join(FILE);
     if !archive.is_file() {
-        made(&root)?;
+        // Cargo may build both crates at once, and one making at a time is enough: the second waits here and finds the archive.
+        let lock = locked(&root);
+        if !archive.is_file() {
+            made(&root)?;
+        }
+        drop(lock);
     }
     if archive.is_file() {
         return Ok(archive);
@@ -47,6 +53,15 @@ fn named(place: &Path) -> Result<PathBuf, String> {
         return Ok(archive);
     }
     Err(format!("{VARIABLE} is {}, where no {FILE} is: set it to that file or its folder, with the whole path", place.display()))
+}
+
+/// A lock on the making. Where it can't be had the archive is made all the same.
+fn locked(root: &Path) -> Option<File> {
+    let folder = root.join("target");
+    create_dir_all(&folder).ok()?;
+    let file = File::create(folder.join("liblang_ast.lock")).ok()?;
+    file.lock().ok()?;
+    Some(file)
 }
 
 fn made(root: &Path) -> Result<(), String> {
