@@ -126,6 +126,32 @@ fn damaged_stores() {
     }
 }
 
+/// Where the table of names and the texts begin.
+const NAMES: usize = 917_588;
+const TEXTS: usize = 3_162_240;
+
+/// Texts that do not lie among those in use read as the empty one, however far off they are.
+#[test]
+fn texts_outside_those_in_use() {
+    let loaded = common::store(r#"21(11(28(18"x"),18"x"))"#).into_bytes();
+    let number = u32::from_le_bytes([0, 1, 2, 3].map(|i| loaded[NAMES + i])) as usize;
+    let read = |at: usize, word: u32| {
+        let mut bytes = loaded.clone();
+        bytes[at..at + 4].copy_from_slice(&word.to_le_bytes());
+        let store = Store::from_bytes(bytes);
+        assert_eq!(store.name_count(), 1);
+        (store.name(NameId(0)).map(|name| name.text.to_vec()), store.check().map_err(|refusal| refusal.number))
+    };
+    assert_eq!(read(TEXTS + number, 1), (Some(b"x".to_vec()), Ok(())));
+    assert_eq!(read(NAMES, u32::MAX), (Some(Vec::new()), Ok(())));
+    for length in [700_000, i32::MAX as u32, u32::MAX - 3, u32::MAX] {
+        assert_eq!(read(TEXTS + number, length), (Some(Vec::new()), Err(22)), "of {length} bytes");
+    }
+    for number in [700_000, 786_431, 786_432, u32::MAX - 4, u32::MAX - 1] {
+        assert_eq!(read(NAMES, number), (Some(Vec::new()), Err(22)), "at {number}");
+    }
+}
+
 /// Of a sound store everything can be read, and what is kept is what the calls say.
 fn readable(store: &Store) {
     assert!(store.entry().is_some());

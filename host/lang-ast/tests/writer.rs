@@ -210,6 +210,23 @@ fn the_longest_sheet_is_written_and_no_longer_one() {
 }
 
 #[test]
+fn a_path_has_at_most_16_attributes() {
+    let with_attributes = |count: usize| {
+        let mut writer = SheetWriter::new();
+        let (root, select, path) = (writer.add(Kind::Root, 0, 9), writer.add(Kind::Select, 0, 9), writer.add(Kind::Attrpath, 0, 9));
+        let attributes: Vec<NodeId> = (0..count).map(|_| writer.add(Kind::ident("a"), 0, 9)).collect();
+        writer.link(root, [select]);
+        writer.link(select, [None, Some(path), None]);
+        writer.link(path, attributes);
+        writer.finish(root)
+    };
+    assert!(check(&with_attributes(0).expect("a sheet")).is_ok());
+    assert!(check(&with_attributes(16).expect("a sheet")).is_ok());
+    let error = with_attributes(17).expect_err("one too many");
+    assert_eq!(error.to_string(), "node 2 (Attrpath, 0 to 9) has 17 kids, and at most 16 are allowed");
+}
+
+#[test]
 fn values_are_checked() {
     for value in [0.0, 1.5, f64::MAX, f64::INFINITY] {
         assert!(check(&over(Kind::Float(Some(value))).expect("a sheet")).is_ok());
