@@ -1,7 +1,7 @@
 //! What a store holds, read from its bytes by docs/STORE.md, without a call.
 //!
-//! Nothing here checks the store, and nothing here panics: of a store that the calls refuse, a reader gives what can be read of it, and none
-//! where a number is not one that the page lets be there.
+//! Nothing here checks the store, and nothing here panics: of a store that the calls refuse, a reader gives what can be read of it, and
+//! none where a number is not one that the page lets be there.
 
 use crate::answer::{Answer, Builtin};
 use crate::expr::{Expr, Row, HOLE};
@@ -59,7 +59,7 @@ impl NameKind {
 pub struct DuplicateKey<'a> {
     /// The key as loaded.
     pub key: &'a [u8],
-    /// The node that had it first.
+    /// The node of the name that has it.
     pub first: Pointer,
     /// The node that has it again.
     pub second: Pointer,
@@ -212,7 +212,7 @@ impl Store {
         })
     }
 
-    /// The lost list: for each key that is there twice, the node whose value was replaced.
+    /// The lost list: for each of the [`diagnostics`](Store::diagnostics) its first node, whose value was replaced.
     pub fn lost(&self) -> impl DoubleEndedIterator<Item = Pointer> + '_ {
         let page = self.page();
         (0..page.count(header::LOST, layout::LOST)).filter_map(move |row| page.pointer(layout::LOST, row, 0))
@@ -292,10 +292,10 @@ impl Store {
     /// # Ok::<(), Box<dyn std::error::Error>>(())
     /// ```
     pub fn scope_holding(&self, name: NameId) -> Option<ScopeId> {
-        self.scopes().find(|&scope| match self.scope(scope) {
-            Some(Scope { kind: ScopeKind::Definitions(names), .. }) => names.contains(&name),
-            _ => false,
-        })
+        let (page, wanted) = (self.page(), below(name.0, self.name_count())?);
+        let entered = |row| page.field(layout::ENTERED, row, 0) == Some(wanted);
+        let has = |scope: ScopeId| page.list(layout::SCOPES, scope.0, layout::ENTERED).is_some_and(|mut rows| rows.any(entered));
+        self.scopes().find(|&scope| self.with_of(scope) == Some(None) && has(scope))
     }
 
     /// What a Reference means by the answer that is kept: what [`Store::ask_reference`] says, without the check of the store. None where

@@ -211,8 +211,9 @@ fn each_sort_of_expression_is_read() {
         sorts.iter_mut().for_each(|said| said.truncate(said.find([' ', '(']).unwrap_or(said.len())));
         sorts.sort();
         sorts.dedup();
-        let all = "Apply Assert AttrSet BinOp HasAttr IfThenElse Lambda LetIn List Literal Missing PathInterpolation Reference Select UnaryOp With";
-        assert_eq!(sorts.join(" "), all);
+        let first = "Apply Assert AttrSet BinOp HasAttr IfThenElse Lambda LetIn";
+        let second = "List Literal Missing PathInterpolation Reference Select UnaryOp With";
+        assert_eq!(sorts.join(" "), format!("{first} {second}"));
     });
 }
 

@@ -12,7 +12,7 @@ const MOST_DEPTH: usize = 256;
 
 const HEX: &[u8; 16] = b"0123456789abcdef";
 
-/// A node that was added to a [`SheetWriter`].
+/// A node that was added to a [`SheetWriter`]. It means nothing to another writer.
 #[derive(Debug, Clone, Copy, PartialEq, Eq, PartialOrd, Ord, Hash)]
 pub struct NodeId(usize);
 
