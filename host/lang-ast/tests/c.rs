@@ -5,6 +5,8 @@ use std::process::Command;
 
 /// What the host prints.
 const FOLLOWED: &str = "\
+nothing lent: 21 21 21 21 21
+load no sheet: refusal 2, place 0, answer 0, to 0, length 0
 ask too early: refusal 23, place 0, answer 0, to 0, length 0
 load: refusal 0, place 0, answer 0, to 0, length 0
 ask e0: refusal 0, place 0, answer 1, to 0, length 0
@@ -17,6 +19,7 @@ name e0 y: refusal 0, place 0, answer 0, to 0, length 0
 ask e0: refusal 0, place 0, answer 1, to 0, length 0
 ask n0: refusal 0, place 0, answer 0, to 0, length 1
 ask without a buffer: refusal 26, place 1, answer 0, to 0, length 0
+name n0 no text: refusal 0, place 0, answer 0, to 0, length 0
 ";
 
 fn run(command: &mut Command) -> String {

@@ -38,6 +38,15 @@ static void ask(const uint8_t *store) {
     said("ask n0", lang_ast_ask_name(store, LANG_AST_STORE_BYTES, 0, buffer, sizeof buffer, reply, sizeof reply));
 }
 
+/* Nothing is lent: the pointers of empty slices are not looked at. */
+static void lend_nothing(void) {
+    printf("nothing lent: %u %u %u %u %u\n", (unsigned)lang_ast_load(NULL, 0, NULL, 0, NULL, 0),
+           (unsigned)lang_ast_ask_reference(NULL, 0, 0, NULL, 0, NULL, 0),
+           (unsigned)lang_ast_ask_name(NULL, 0, 0, NULL, 0, NULL, 0),
+           (unsigned)lang_ast_change_reference(NULL, 0, 0, NULL, 0, NULL, 0),
+           (unsigned)lang_ast_change_name(NULL, 0, 0, NULL, 0, NULL, 0));
+}
+
 int main(int count, char **words) {
     static uint8_t sheet[4096];
     uint8_t *store = calloc(1, LANG_AST_STORE_BYTES);
@@ -46,6 +55,8 @@ int main(int count, char **words) {
         return 1;
     }
     size_t length = read_sheet(words[1], sheet, sizeof sheet);
+    lend_nothing();
+    said("load no sheet", lang_ast_load(NULL, 0, store, LANG_AST_STORE_BYTES, reply, sizeof reply));
     said("ask too early", lang_ast_ask_reference(store, LANG_AST_STORE_BYTES, 0, NULL, 0, reply, sizeof reply));
     said("load", lang_ast_load(sheet, length, store, LANG_AST_STORE_BYTES, reply, sizeof reply));
     ask(store);
@@ -55,6 +66,7 @@ int main(int count, char **words) {
     said("name e0 y", lang_ast_change_reference(store, LANG_AST_STORE_BYTES, 0, (const uint8_t *)"y", 1, reply, sizeof reply));
     ask(store);
     said("ask without a buffer", lang_ast_ask_name(store, LANG_AST_STORE_BYTES, 0, NULL, 0, reply, sizeof reply));
+    said("name n0 no text", lang_ast_change_name(store, LANG_AST_STORE_BYTES, 0, NULL, 0, reply, sizeof reply));
     free(store);
     return 0;
 }
