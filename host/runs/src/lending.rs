@@ -1,6 +1,7 @@
 //! A store that is lent for one sheet after the other, and how many of them went wrong.
 
 use crate::lower::{sheets, Named};
+use crate::report::Differences;
 use crate::store::Lent;
 use generate::Rng;
 
@@ -11,12 +12,12 @@ pub struct Lending {
     lent: Lent,
     rng: Rng,
     sheets: u64,
-    differences: u64,
+    pub differences: Differences,
 }
 
 impl Lending {
     pub fn new(seed: u64) -> Self {
-        Lending { lent: Lent::new(), rng: Rng::new(seed), sheets: 0, differences: 0 }
+        Lending { lent: Lent::new(), rng: Rng::new(seed), sheets: 0, differences: Differences::default() }
     }
 
     /// The store, which may hold anything.
@@ -30,36 +31,19 @@ impl Lending {
             self.lent.soil(&mut self.rng);
         }
         self.sheets += 1;
-        let before = self.differences;
+        let before = self.differences.count;
         if let Err(why) = compare(self.lent.store()) {
-            self.differs(sheet, &why);
+            self.differences.add(|| sheet.difference(&why));
         }
         if !self.lent.margins_stand() {
-            self.differs(sheet, "bytes outside the store were written");
+            self.differences.add(|| sheet.difference("bytes outside the store were written"));
             self.lent = Lent::new();
         }
-        self.differences == before
-    }
-
-    /// Counts a difference and prints the first with its sheet.
-    fn differs(&mut self, sheet: &Named, what: &str) {
-        self.differences += 1;
-        if self.differences == 1 {
-            sheet.print_difference(what);
-        }
-    }
-
-    /// Prints how many sheets there were; whether all was as it should be.
-    pub fn end(&self) -> bool {
-        println!("{} sheets, {} differences", self.sheets, self.differences);
-        self.differences == 0
+        self.differences.count == before
     }
 }
 
-/// So many random sheets of up to so many nodes, each named by its seed.
-pub fn random(count: u64, most: usize, seed: u64) -> impl Iterator<Item = Named> {
-    (0..count).map(move |i| {
-        let seed = seed.wrapping_add(i);
-        Named { name: format!("random, of up to {most} nodes, seed {seed}"), nodes: sheets::random(seed, most) }
-    })
+/// A random sheet of up to so many nodes, named by its seed.
+pub fn random(most: usize, seed: u64) -> Named {
+    Named { name: format!("random, of up to {most} nodes, seed {seed}"), nodes: sheets::random(seed, most) }
 }

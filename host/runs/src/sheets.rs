@@ -2,6 +2,9 @@
 
 use crate::edged::Edged;
 use crate::exported::{self, REPLY};
+use crate::progress::{grouped, Progress};
+use crate::report::{Differences, Report};
+use crate::split::{split, threads};
 use crate::store::Lent;
 use generate::{Preset, Rng};
 use sheet::check::check;
@@ -14,97 +17,118 @@ const REPLIES: [usize; 4] = [REPLY, REPLY, REPLY + 1, 64];
 /// How long it is for a second load of one sheet in eight: too short.
 const SHORT: [usize; 3] = [0, REPLY - 1, 4];
 
+/// So many sheets are loaded into one store, one after the other.
+const EACH: u64 = 500;
+
 /// What was seen of a family of sheets: how often each number came, and how many bytes there were.
 #[derive(Default)]
 struct Seen {
     numbers: BTreeMap<u32, u64>,
     bytes: u64,
+    differences: Differences,
 }
 
-struct Run {
+struct Run<'a> {
     lent: Lent,
     /// The store as it is to stay.
     before: Vec<u8>,
-    sheets: u64,
-    differences: u64,
+    seen: Seen,
+    progress: &'a Progress,
 }
 
-/// Loads so many damaged and so many valid sheets, and some of the longest; whether all was as it should be.
-pub fn run(damaged: u64, valid: u64, seed: u64) -> bool {
-    with_big_stack(|| {
-        let mut run = Run::new(seed);
-        run.damaged(damaged, seed);
-        run.valid(valid, seed);
-        run.limits();
-        println!("{} sheets, {} differences", run.sheets, run.differences);
-        run.differences == 0
-    })
+/// Loads so many damaged and so many valid sheets, and some of the longest.
+pub fn run(damaged: u64, valid: u64, seed: u64) -> Report {
+    run_on(threads(), damaged, valid, seed)
 }
 
-impl Run {
-    fn new(seed: u64) -> Self {
+fn run_on(threads: usize, damaged: u64, valid: u64, seed: u64) -> Report {
+    let mut all = family(threads, "damaged", damaged, seed, |run, i| run.damaged(i, seed));
+    all.merge(family(threads, "valid", valid, seed, |run, i| run.valid(i, seed)));
+    all.merge(with_big_stack(|| limits(seed)));
+    all.differences.print();
+    println!("{} sheets, {} differences", all.sheets(), all.differences.count);
+    Report { met: all.met(), differences: all.differences.count, complete: true }
+}
+
+/// So many sheets, each by its number.
+fn family(threads: usize, name: &str, count: u64, seed: u64, sheet: impl Fn(&mut Run, u64) + Sync) -> Seen {
+    let progress = Progress::new(format!("sheets, {name}"), count);
+    let parts = split(
+        threads,
+        count,
+        EACH,
+        || (),
+        |(), turns| {
+            let mut run = Run::new(seed.wrapping_add(turns.start), &progress);
+            turns.for_each(|i| sheet(&mut run, i));
+            run.seen
+        },
+    );
+    let mut seen = Seen::default();
+    parts.into_iter().for_each(|part| seen.merge(part));
+    drop(progress);
+    seen.print(name);
+    seen
+}
+
+/// Sheets at the longest and about it.
+fn limits(seed: u64) -> Seen {
+    let whole = generate::exactly_written(MAX_BYTES);
+    let cut = whole[..MAX_BYTES - 1].to_vec();
+    let fixed = [
+        ("in order, 1,048,576 bytes", whole),
+        ("without its last line's end, 1,048,575 bytes", cut),
+        ("in order but for its 1,048,577 bytes", generate::over_long()),
+        ("1,048,576 bytes x", vec![b'x'; MAX_BYTES]),
+        ("1,048,577 bytes x", vec![b'x'; MAX_BYTES + 1]),
+        ("16 times the longest", vec![b'\n'; 16 * MAX_BYTES]),
+        ("no bytes", Vec::new()),
+    ];
+    let progress = Progress::new("sheets, the longest", fixed.len() as u64);
+    let mut run = Run::new(seed, &progress);
+    for (i, (what, bytes)) in (0..).zip(fixed) {
+        let number = run.sheet(i, &bytes, || what.to_string());
+        println!("{what}: {}", if number == 0 { "accepted".to_string() } else { format!("refusal {number}") });
+    }
+    run.seen
+}
+
+impl<'a> Run<'a> {
+    fn new(seed: u64, progress: &'a Progress) -> Self {
         let mut lent = Lent::new();
         lent.soil(&mut Rng::new(seed));
         let before = lent.all().to_vec();
-        Run { lent, before, sheets: 0, differences: 0 }
+        Run { lent, before, seen: Seen::default(), progress }
     }
 
-    fn damaged(&mut self, count: u64, seed: u64) {
-        let mut seen = Seen::default();
-        for i in 0..count {
-            let (bytes, what) = generate::damaged(seed.wrapping_add(i));
-            self.sheet(&mut seen, &bytes, || format!("damaged, seed {}: {what}", seed.wrapping_add(i)));
-        }
-        seen.print("damaged");
+    fn damaged(&mut self, i: u64, seed: u64) {
+        let (bytes, what) = generate::damaged(seed.wrapping_add(i));
+        self.sheet(i, &bytes, || format!("damaged, seed {}: {what}", seed.wrapping_add(i)));
     }
 
-    fn valid(&mut self, count: u64, seed: u64) {
-        let mut seen = Seen::default();
-        for i in 0..count {
-            // A preset's seeds follow one another, which goes through its sorts.
-            let (preset, seed) = (Preset::ALL[(i % 10) as usize], seed.wrapping_add(i / 10));
-            let bytes = sheet::write(&preset.sheet(seed));
-            let number = self.sheet(&mut seen, &bytes, || format!("valid, preset {}, seed {seed}", preset.name()));
-            if number != 0 {
-                self.differs(&format!("a sheet of the preset {}, seed {seed}, is refused with {number}", preset.name()));
-            }
-        }
-        seen.print("valid");
-    }
-
-    /// Sheets at the longest and about it.
-    fn limits(&mut self) {
-        let whole = generate::exactly_written(MAX_BYTES);
-        let cut = whole[..MAX_BYTES - 1].to_vec();
-        let fixed = [
-            ("in order, 1,048,576 bytes", whole),
-            ("without its last line's end, 1,048,575 bytes", cut),
-            ("in order but for its 1,048,577 bytes", generate::over_long()),
-            ("1,048,576 bytes x", vec![b'x'; MAX_BYTES]),
-            ("1,048,577 bytes x", vec![b'x'; MAX_BYTES + 1]),
-            ("16 times the longest", vec![b'\n'; 16 * MAX_BYTES]),
-            ("no bytes", Vec::new()),
-        ];
-        for (what, bytes) in fixed {
-            let mut seen = Seen::default();
-            let number = self.sheet(&mut seen, &bytes, || what.to_string());
-            println!("{what}: {}", if number == 0 { "accepted".to_string() } else { format!("refusal {number}") });
+    fn valid(&mut self, i: u64, seed: u64) {
+        // A preset's seeds follow one another, which goes through its sorts.
+        let (preset, seed) = (Preset::ALL[(i % 10) as usize], seed.wrapping_add(i / 10));
+        let bytes = sheet::write(&preset.sheet(seed));
+        let number = self.sheet(i, &bytes, || format!("valid, preset {}, seed {seed}", preset.name()));
+        if number != 0 {
+            self.differs(|| format!("a sheet of the preset {}, seed {seed}, is refused with {number}", preset.name()));
         }
     }
 
-    /// Loads a sheet and returns the oracle's number.
-    fn sheet(&mut self, seen: &mut Seen, bytes: &[u8], name: impl Fn() -> String) -> u32 {
+    /// Loads the sheet of a number and returns the oracle's number for it.
+    fn sheet(&mut self, i: u64, bytes: &[u8], name: impl Fn() -> String) -> u32 {
         let expected = check(bytes).map_or_else(|refusal| (refusal.number, refusal.place), |_| (0, 0));
-        let turn = |lengths: &[usize]| lengths[(self.sheets % lengths.len() as u64) as usize];
-        let short = Some(turn(&SHORT)).filter(|_| self.sheets.is_multiple_of(8));
+        let turn = |lengths: &[usize]| lengths[(i % lengths.len() as u64) as usize];
+        let short = Some(turn(&SHORT)).filter(|_| i.is_multiple_of(8));
         for reply in short.into_iter().chain([turn(&REPLIES)]) {
             if let Err(why) = self.load(bytes, reply, expected) {
-                self.differs(&format!("{}, reply of {reply} bytes: {why}", name()));
+                self.differs(|| format!("{}, reply of {reply} bytes: {why}", name()));
             }
         }
-        self.sheets += 1;
-        *seen.numbers.entry(expected.0).or_insert(0) += 1;
-        seen.bytes += bytes.len() as u64;
+        *self.seen.numbers.entry(expected.0).or_insert(0) += 1;
+        self.seen.bytes += bytes.len() as u64;
+        self.progress.turn();
         expected.0
     }
 
@@ -140,22 +164,48 @@ impl Run {
         }
     }
 
-    /// Counts a difference and prints the first.
-    fn differs(&mut self, what: &str) {
-        if self.differences == 0 {
-            println!("FIRST DIFFERENCE: {what}");
-        }
-        self.differences += 1;
+    fn differs(&mut self, what: impl FnOnce() -> String) {
+        self.seen.differences.add(what);
+        self.progress.differs();
     }
 }
 
 impl Seen {
+    fn merge(&mut self, later: Seen) {
+        later.numbers.into_iter().for_each(|(number, count)| *self.numbers.entry(number).or_insert(0) += count);
+        self.bytes += later.bytes;
+        self.differences.merge(later.differences);
+    }
+
+    fn sheets(&self) -> u64 {
+        self.numbers.values().sum()
+    }
+
     fn print(&self, family: &str) {
-        let sheets: u64 = self.numbers.values().sum();
-        println!("{family}: {sheets} sheets, {} bytes", self.bytes);
+        println!("{family}: {} sheets, {} bytes", self.sheets(), self.bytes);
         for (number, count) in &self.numbers {
             let what = if *number == 0 { "accepted".to_string() } else { format!("refusal {number}") };
             println!("    {what}: {count}");
         }
+    }
+
+    fn met(&self) -> String {
+        let numbers = self.numbers.iter().map(|(number, &count)| match number {
+            0 => format!("accepted {}", grouped(count)),
+            number => format!("{number}: {}", grouped(count)),
+        });
+        format!("{}; {} bytes", numbers.collect::<Vec<_>>().join(", "), grouped(self.bytes))
+    }
+}
+
+#[cfg(test)]
+mod tests {
+    use super::*;
+
+    #[test]
+    fn the_same_on_one_thread_and_on_two() {
+        let [one, two] = [1, 2].map(|threads| run_on(threads, 2 * EACH + 20, 20, 5));
+        assert_eq!((one.met, one.differences), (two.met, two.differences));
+        assert!(one.complete && one.differences == 0);
     }
 }

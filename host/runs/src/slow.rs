@@ -4,6 +4,8 @@
 use crate::exported::{self, REPLY};
 use crate::lower::sheets::tree;
 use crate::nameres::sheets::inheriting_let_of;
+use crate::progress::{grouped, Progress};
+use crate::report::Report;
 use crate::speed::{median, rust, time};
 use crate::store::asked::text_of;
 use crate::store::build::{build, Texts};
@@ -17,6 +19,8 @@ use tix::with_big_stack;
 const ROUNDS: usize = 5;
 /// Microseconds after which a store's calls are not made again.
 const LONG: f64 = 1e6;
+/// How many sheets there are beside the stores.
+const SHEETS: u64 = 2;
 
 /// How a store is built: so many References in the innermost scope, and so many names before them.
 struct Slow {
@@ -47,22 +51,25 @@ const STORES: [Slow; 8] = [
 ];
 
 /// Prints a table of stores, and one of sheets.
-pub fn run() -> Result<(), String> {
-    println!("| Store | References | Names | Ask Reference | Ask name | Change Reference | Change name away | Change name back |");
-    println!("|---|---|---|---|---|---|---|---|");
+pub fn run() -> Result<Report, String> {
+    let progress = Progress::new("slow, rows", STORES.len() as u64 + SHEETS);
+    progress.tell("| Store | References | Names | Ask Reference | Ask name | Change Reference | Change name away | Change name back |");
+    progress.tell("|---|---|---|---|---|---|---|---|");
     let mut lent = Lent::new();
-    let mut last = 0.0;
+    let (mut last, mut longest) = (0.0, 0.0_f64);
     for slow in &STORES {
         slow.build(lent.store());
-        last = print(slow.name, lent.store(), slow.references as u32 - 1, slow.references, slow.names)?;
+        last = print(&progress, slow.name, lent.store(), slow.references as u32 - 1, slow.references, slow.names)?;
+        longest = longest.max(last);
     }
-    println!(
+    progress.tell(&format!(
         "milliseconds, the median of up to {ROUNDS}; texts differ in their last byte, and the name that changes is the last looked at;"
-    );
-    println!("a change's time grows with References times names times the length of a text: {} References", EXPRS.limit);
-    println!("instead of the last row's one would take some {:.1} hours", last * EXPRS.limit as f64 / 3.6e6);
-    println!();
-    with_big_stack(|| sheets(lent.store()))
+    ));
+    progress.tell(&format!("a change's time grows with References times names times the length of a text: {} References", EXPRS.limit));
+    progress.tell(&format!("instead of the last row's one would take some {:.1} hours", last * EXPRS.limit as f64 / 3.6e6));
+    progress.tell("");
+    with_big_stack(|| sheets(&progress, lent.store()))?;
+    Ok(Report::measured(format!("the longest change of a name {} ms", grouped(longest.round() as u64))))
 }
 
 impl Slow {
@@ -108,7 +115,7 @@ impl Slow {
 }
 
 /// A row for calls about the Reference e, which means name 0; the milliseconds for changing that name.
-fn print(name: &str, store: &mut [u8], e: u32, references: usize, names: usize) -> Result<f64, String> {
+fn print(progress: &Progress, name: &str, store: &mut [u8], e: u32, references: usize, names: usize) -> Result<f64, String> {
     if sound::condition(store) != 0 {
         return Err(format!("{name}: the store is not sound"));
     }
@@ -120,7 +127,8 @@ fn print(name: &str, store: &mut [u8], e: u32, references: usize, names: usize) 
         times.iter_mut().zip(round).for_each(|(times, time)| times.push(time / 1e3));
     }
     let [ask, ask_name, reference, away, back] = times.map(median);
-    println!("| {name} | {references} | {names} | {ask:.2} | {ask_name:.2} | {reference:.2} | {away:.2} | {back:.2} |");
+    progress.tell(&format!("| {name} | {references} | {names} | {ask:.2} | {ask_name:.2} | {reference:.2} | {away:.2} | {back:.2} |"));
+    progress.turn();
     Ok(away)
 }
 
@@ -158,16 +166,19 @@ fn put_back(store: &mut [u8], at: usize, text: u32, used: u32) {
 }
 
 /// Sheets of as many names as uses, all with texts that differ at their end, which are as long as a sheet can hold.
-fn sheets(store: &mut [u8]) -> Result<(), String> {
-    println!("| A let of 2,046 inherited names of 96 bytes | Bytes | Load | The Rust's | Ask name | Change name |");
-    println!("|---|---|---|---|---|---|");
-    sheet(store, "2,046 uses of them", |use_| (37 * use_ + 11) % 2_046)?;
-    sheet(store, "2,046 uses of none of them", |use_| 2_046 + use_)?;
-    println!("milliseconds, the median of {ROUNDS}");
+fn sheets(progress: &Progress, store: &mut [u8]) -> Result<(), String> {
+    progress.tell("| A let of 2,046 inherited names of 96 bytes | Bytes | Load | The Rust's | Ask name | Change name |");
+    progress.tell("|---|---|---|---|---|---|");
+    progress.tell(&sheet(store, "2,046 uses of them", |use_| (37 * use_ + 11) % 2_046)?);
+    progress.turn();
+    progress.tell(&sheet(store, "2,046 uses of none of them", |use_| 2_046 + use_)?);
+    progress.turn();
+    progress.tell(&format!("milliseconds, the median of {ROUNDS}"));
     Ok(())
 }
 
-fn sheet(store: &mut [u8], what: &str, used: impl Fn(usize) -> usize) -> Result<(), String> {
+/// The row of a sheet.
+fn sheet(store: &mut [u8], what: &str, used: impl Fn(usize) -> usize) -> Result<String, String> {
     let text = |number: usize| format!("{}{number:04}", "k".repeat(92)).into_bytes();
     let bytes = sheet::write(&tree(what, inheriting_let_of(2_046, &text, used)).nodes);
     let (mut buffer, mut reply) = (vec![0; 4 * EXPRS.limit], [0; REPLY]);
@@ -183,6 +194,5 @@ fn sheet(store: &mut [u8], what: &str, used: impl Fn(usize) -> usize) -> Result<
         return Err(format!("{what}: a call is refused with {number}"));
     }
     let [load, rust, ask, change] = times.map(median);
-    println!("| {what} | {} | {load:.2} | {rust:.2} | {ask:.2} | {change:.2} |", bytes.len());
-    Ok(())
+    Ok(format!("| {what} | {} | {load:.2} | {rust:.2} | {ask:.2} | {change:.2} |", bytes.len()))
 }

@@ -2,8 +2,10 @@
 //! paint is gone.
 
 use crate::exported::{self, REPLY};
-use crate::lower::sheets;
+use crate::lower::{sheets, Named};
 use crate::nameres::expected::Right;
+use crate::progress::{grouped, Progress};
+use crate::report::Report;
 use crate::speed::rust;
 use crate::store::Lent;
 use canon::Reading;
@@ -19,19 +21,22 @@ const NEAR: usize = 4_096;
 const PAINT: u64 = 0xc7a5_93e1_5b6d_8f37;
 
 /// Prints the bytes of stack for the deepest sheets of every sort, and which takes the most.
-pub fn run() -> Result<(), String> {
-    println!("| Sheet | Nodes | Load | Rust |");
-    println!("|---|---|---|---|");
+pub fn run() -> Result<Report, String> {
+    let all: Vec<Named> = sheets::deep().into_iter().chain(sheets::merged()).collect();
+    let progress = Progress::new("stack, sheets", all.len() as u64);
+    progress.tell("| Sheet | Nodes | Load | Rust |");
+    progress.tell("|---|---|---|---|");
     let mut most = (0, String::new());
-    for sheet in sheets::deep().into_iter().chain(sheets::merged()) {
+    for sheet in all {
         let load = of_load(&sheet.nodes).map_err(|why| format!("{}: {why}", sheet.name))?;
         let rust = used(|| drop(rust::loaded(rnix::Root::of_nodes(&sheet.nodes))))?;
-        println!("| {} | {} | {load} | {rust} |", sheet.name, sheet.nodes.len());
+        progress.tell(&format!("| {} | {} | {load} | {rust} |", sheet.name, sheet.nodes.len()));
+        progress.turn();
         most = most.max((load, sheet.name));
     }
-    println!("bytes of stack below the caller's frame; the most: {} bytes, {}", most.0, most.1);
-    println!("the Rust: lowering, scopes and answers of a tree that is there");
-    Ok(())
+    progress.tell(&format!("bytes of stack below the caller's frame; the most: {} bytes, {}", most.0, most.1));
+    progress.tell("the Rust: lowering, scopes and answers of a tree that is there");
+    Ok(Report::measured(format!("{} bytes at most, {}", grouped(most.0 as u64), most.1)))
 }
 
 fn of_load(nodes: &[Node]) -> Result<usize, String> {

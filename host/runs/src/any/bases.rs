@@ -18,43 +18,55 @@ pub struct Base {
     pub calls: u64,
 }
 
+/// What the store of a seed is.
+pub fn base(seed: u64) -> Base {
+    let (kind, calls) = match seed % 16 {
+        0 | 1 => ("loaded, small", 1_500),
+        2 => ("loaded, all about keys", 1_500),
+        3 => ("loaded, middling", 1_500),
+        4 => ("loaded, Withs", 800),
+        5 => ("loaded, large", 500),
+        6 => ("loaded, a large scope", 300),
+        7 | 8 => ("loaded and changed", 1_500),
+        9 | 10 => ("built, small", 1_500),
+        11 => ("built, middling", 800),
+        12 => ("built, tables at their limits", 100),
+        13 => ("any bytes under small counts", 1_500),
+        14 => ("any bytes under an empty header", 800),
+        _ => ("any bytes", 800),
+    };
+    Base { kind, calls }
+}
+
 /// Fills a store of at least the shortest length.
-pub fn fill(store: &mut [u8], seed: u64) -> Base {
+pub fn fill(store: &mut [u8], seed: u64) {
     let rng = &mut Rng::new(seed);
     soil(&mut store[..BYTES], rng);
-    let base = |kind, calls| Base { kind, calls };
     match seed % 16 {
-        0 | 1 => load(store, &Preset::Small.sheet(seed), base("loaded, small", 1_500)),
-        2 => load(store, &Preset::Keys.sheet(seed), base("loaded, all about keys", 1_500)),
-        3 => load(store, &Preset::Medium.sheet(seed), base("loaded, middling", 1_500)),
-        4 => load(store, &Preset::Withs.sheet(seed), base("loaded, Withs", 800)),
-        5 => load(store, &Preset::Large.sheet(seed), base("loaded, large", 500)),
-        6 => load(store, &rng.pick(&nameres::sheets::large()).nodes, base("loaded, a large scope", 300)),
-        7 | 8 => changed(store, seed, base("loaded and changed", 1_500)),
-        9 | 10 => built(store, &Size::about(rng, 60), rng, base("built, small", 1_500)),
-        11 => built(store, &Size::about(rng, 1_500), rng, base("built, middling", 800)),
-        12 => built(store, &Size::of_seed(rng, seed % 3), rng, base("built, tables at their limits", 100)),
-        13 => {
-            small_header(store, rng);
-            base("any bytes under small counts", 1_500)
-        }
-        14 => {
-            empty_header(store);
-            base("any bytes under an empty header", 800)
-        }
-        _ => base("any bytes", 800),
+        0 | 1 => load(store, &Preset::Small.sheet(seed)),
+        2 => load(store, &Preset::Keys.sheet(seed)),
+        3 => load(store, &Preset::Medium.sheet(seed)),
+        4 => load(store, &Preset::Withs.sheet(seed)),
+        5 => load(store, &Preset::Large.sheet(seed)),
+        6 => load(store, &rng.pick(&nameres::sheets::large()).nodes),
+        7 | 8 => changed(store, seed),
+        9 | 10 => built(store, &Size::about(rng, 60), rng),
+        11 => built(store, &Size::about(rng, 1_500), rng),
+        12 => built(store, &Size::of_seed(rng, seed % 3), rng),
+        13 => small_header(store, rng),
+        14 => empty_header(store),
+        _ => {}
     }
 }
 
-fn load(store: &mut [u8], nodes: &[Node], base: Base) -> Base {
+fn load(store: &mut [u8], nodes: &[Node]) {
     exported::load(&sheet::write(nodes), store, &mut [0; REPLY]);
-    base
 }
 
 /// A small loaded store after so many changes that the room is nearly spent.
-fn changed(store: &mut [u8], seed: u64, base: Base) -> Base {
+fn changed(store: &mut [u8], seed: u64) {
     let nodes = Preset::Small.sheet(seed);
-    let base = load(store, &nodes, base);
+    load(store, &nodes);
     let facts = Tix::new(&nodes).facts();
     let mut changes = Changes::new(seed, true);
     for _ in 0..if can_change(&facts) { 40 } else { 0 } {
@@ -64,10 +76,8 @@ fn changed(store: &mut [u8], seed: u64, base: Base) -> Base {
             Target::Reference(e) => exported::change_reference(store, e, &change.text, &mut [0; REPLY]),
         };
     }
-    base
 }
 
-fn built(store: &mut [u8], size: &Size, rng: &mut Rng, base: Base) -> Base {
+fn built(store: &mut [u8], size: &Size, rng: &mut Rng) {
     filled(store, size, rng, |_, _| ());
-    base
 }

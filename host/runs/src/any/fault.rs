@@ -1,7 +1,10 @@
 //! What is printed when a call touches what it was not lent, or does not end: which call it was. The process ends with it.
 
+use std::cell::Cell;
 use std::ffi::{c_int, c_void};
-use std::sync::atomic::{AtomicU64, Ordering};
+use std::sync::atomic::{AtomicU64, AtomicUsize, Ordering::Relaxed};
+use std::sync::OnceLock;
+use std::time::Instant;
 
 extern "C" {
     fn signal(number: c_int, handler: extern "C" fn(c_int)) -> *mut c_void;
@@ -17,8 +20,23 @@ const SIGALRM: c_int = 14;
 /// A family of calls on one store takes less than this; a call that takes longer is taken for one without end.
 const SECONDS: u32 = 300;
 
-static BASE: AtomicU64 = AtomicU64::new(0);
-static CALL: AtomicU64 = AtomicU64::new(0);
+/// What the calls of a thread are about.
+struct Slot {
+    base: AtomicU64,
+    call: AtomicU64,
+    /// One more than the second in which the calls on that store began; 0 between stores.
+    begun: AtomicU64,
+}
+
+/// Threads beyond so many share the slots, and then a message may name another thread's call.
+const SLOTS: usize = 16;
+static SLOT: [Slot; SLOTS] = [const { Slot { base: AtomicU64::new(0), call: AtomicU64::new(0), begun: AtomicU64::new(0) } }; SLOTS];
+static THREADS: AtomicUsize = AtomicUsize::new(0);
+
+thread_local! {
+    /// The thread's slot. It is there from the start, so that the handler of a fault can read it.
+    static OWN: Cell<usize> = const { Cell::new(usize::MAX) };
+}
 
 /// From now on a fault is printed.
 pub fn watch() {
@@ -27,10 +45,36 @@ pub fn watch() {
     }
 }
 
+fn own() -> &'static Slot {
+    if OWN.get() == usize::MAX {
+        OWN.set(THREADS.fetch_add(1, Relaxed) % SLOTS);
+    }
+    &SLOT[OWN.get()]
+}
+
+/// Seconds since the first call of this.
+fn seconds() -> u64 {
+    static START: OnceLock<Instant> = OnceLock::new();
+    START.get_or_init(Instant::now).elapsed().as_secs()
+}
+
 /// The calls on the store of a seed begin, and are to end in time.
 pub fn begin(seed: u64) {
-    BASE.store(seed, Ordering::Relaxed);
+    let (slot, now) = (own(), seconds());
+    slot.base.store(seed, Relaxed);
+    slot.call.store(0, Relaxed);
+    slot.begun.store(now + 1, Relaxed);
+    // The alarm of a thread that does not come to an end is put off by the others, so they look whether it is late.
+    let late = |slot: &&Slot| (1..(now + 1).saturating_sub(SECONDS.into())).contains(&slot.begun.load(Relaxed));
+    if let Some(late) = SLOT.iter().find(late) {
+        end_with(UNENDED, late);
+    }
     unsafe { alarm(SECONDS) };
+}
+
+/// The calls on a store are made.
+pub fn rest() {
+    own().begun.store(0, Relaxed);
 }
 
 /// All calls are made.
@@ -40,16 +84,26 @@ pub fn end() {
 
 /// The next call on that store.
 pub fn call(number: u64) {
-    CALL.store(number, Ordering::Relaxed);
+    own().call.store(number, Relaxed);
 }
 
+const UNENDED: &[u8] = b"A CALL DID NOT END";
+
 extern "C" fn ended(number: c_int) {
-    let what: &[u8] = if number == SIGALRM { b"A CALL DID NOT END" } else { b"A CALL TOUCHED WHAT IT WAS NOT LENT" };
+    if number == SIGALRM {
+        // Any thread may be stopped by the alarm. It comes when none has begun a store for so long, so every one that is at a store is late.
+        let at_work = SLOT.iter().find(|slot| slot.begun.load(Relaxed) != 0);
+        end_with(UNENDED, at_work.unwrap_or(&SLOT[0]));
+    }
+    end_with(b"A CALL TOUCHED WHAT IT WAS NOT LENT", &SLOT[OWN.get() % SLOTS]);
+}
+
+fn end_with(what: &[u8], slot: &Slot) -> ! {
     print(what);
     print(b": store of seed ");
-    print_number(BASE.load(Ordering::Relaxed));
+    print_number(slot.base.load(Relaxed));
     print(b", call ");
-    print_number(CALL.load(Ordering::Relaxed));
+    print_number(slot.call.load(Relaxed));
     print(b"\n");
     unsafe { _exit(1) }
 }

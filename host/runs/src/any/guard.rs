@@ -11,6 +11,8 @@ extern "C" {
     fn mprotect(at: *mut c_void, length: usize, access: c_int) -> c_int;
     fn memfd_create(name: *const c_char, flags: u32) -> c_int;
     fn ftruncate(file: c_int, length: i64) -> c_int;
+    fn munmap(at: *mut c_void, length: usize) -> c_int;
+    fn close(file: c_int) -> c_int;
 }
 
 // Numbers of Linux on x86-64.
@@ -54,6 +56,8 @@ impl Guarded {
         }
         let view = |access| view(file, bytes, access);
         let mut guarded = Guarded { own: view(READ_WRITE)?, write: view(READ_WRITE)?, read: view(READ)?, bytes };
+        // The views keep the memory.
+        unsafe { close(file) };
         guarded.all().fill(UNWRITTEN);
         Ok(guarded)
     }
@@ -91,6 +95,15 @@ impl Guarded {
             Side::End => free - free.min(PAGE)..free,
         };
         self.all()[edge].iter().all(|&byte| byte == UNWRITTEN)
+    }
+}
+
+impl Drop for Guarded {
+    /// Nothing that was lent is in use any more: a slice of it is only held for the time of a call.
+    fn drop(&mut self) {
+        for view in [self.own, self.write, self.read] {
+            unsafe { munmap(view.sub(PAGE).cast(), self.bytes + 2 * PAGE) };
+        }
     }
 }
 

@@ -15,6 +15,9 @@ mod lend;
 mod seen;
 
 use crate::making::{kind, lengths};
+use crate::progress::Progress;
+use crate::report::Report;
+use crate::split::{split, threads};
 use crate::store::asked::{self, Accepted};
 use crate::store::damage::{damaged, drawn, Damage, Must};
 use crate::store::layout::{get, header, put, BYTES};
@@ -26,34 +29,62 @@ use guard::{Access, Side};
 use lend::{Lent, Memory};
 use seen::Seen;
 use sheet::check::check;
-use tix::with_big_stack;
 
 /// Bytes that a store may have past its last.
 const MORE: usize = 64;
 /// How many of a hundred calls are loads.
 const LOADED: u64 = 3;
 
-/// Makes so many calls; whether all was as it should be.
-pub fn run(calls: u64, seed: u64) -> Result<bool, String> {
-    fault::watch();
-    with_big_stack(|| {
-        let mut run = Run { memory: Memory::new()?, filled: Vec::new(), seen: Seen::default() };
-        let mut seed = seed;
-        while run.seen.calls() < calls {
-            run.base(seed, calls);
-            seed = seed.wrapping_add(1);
-        }
-        fault::end();
-        run.seen.print();
-        Ok(run.seen.end())
-    })
+/// So many stores are one part of a run.
+const EACH: u64 = 4;
+
+/// Makes so many calls.
+pub fn run(calls: u64, seed: u64) -> Result<Report, String> {
+    run_on(threads(), calls, seed)
 }
 
-struct Run {
-    memory: Memory,
+fn run_on(threads: usize, calls: u64, seed: u64) -> Result<Report, String> {
+    fault::watch();
+    let plan = plan(calls, seed);
+    let progress = Progress::new("any", calls);
+    let parts = split(threads, plan.len() as u64, EACH, Memory::new, |memory, turns| {
+        let mut run =
+            Run { memory: memory.as_mut().map_err(|why| why.clone())?, filled: Vec::new(), seen: Seen::default(), progress: &progress };
+        turns.map(|i| &plan[i as usize]).for_each(|&(seed, calls)| run.base(seed, calls));
+        Ok::<_, String>(run.seen)
+    });
+    fault::end();
+    drop(progress);
+    let mut seen = Seen::default();
+    for part in parts {
+        seen.merge(part?);
+    }
+    seen.print();
+    seen.differences.print();
+    println!("{} differences", seen.differences.count);
+    let met = format!("{}; the longest call {:.1} ms", seen.met(), seen.longest());
+    Ok(Report { met, differences: seen.differences.count, complete: true })
+}
+
+/// The seeds of the stores for so many calls, with the calls on each.
+fn plan(calls: u64, seed: u64) -> Vec<(u64, u64)> {
+    let mut left = calls;
+    let mut plan = Vec::new();
+    while left > 0 {
+        let seed = seed.wrapping_add(plan.len() as u64);
+        let share = bases::base(seed).calls.min(left);
+        plan.push((seed, share));
+        left -= share;
+    }
+    plan
+}
+
+struct Run<'a> {
+    memory: &'a mut Memory,
     /// The store as it was filled.
     filled: Vec<u8>,
     seen: Seen,
+    progress: &'a Progress,
 }
 
 /// What the store was filled with, how long it is, and at which end of its memory it lies.
@@ -63,25 +94,30 @@ struct Place {
     at: Side,
 }
 
-impl Run {
-    /// The calls on the store of a seed, up to so many in all.
-    fn base(&mut self, seed: u64, most: u64) {
+impl Run<'_> {
+    /// So many calls on the store of a seed.
+    fn base(&mut self, seed: u64, calls: u64) {
         let rng = &mut Rng::new(!seed);
         let (length, at) = (BYTES + rng.pick(&[0, 0, 1, 3, MORE]), draw::side(rng));
         fault::begin(seed);
         self.memory.store.all().fill(UNWRITTEN);
-        let base = bases::fill(self.memory.store.own(length, at), seed);
-        self.filled = self.memory.store.own(length, at).to_vec();
-        let place = Place { base, length, at };
-        let calls = place.base.calls.min(most - self.seen.calls());
+        let store = self.memory.store.own(length, at);
+        bases::fill(store, seed);
+        self.filled.clear();
+        self.filled.extend_from_slice(store);
+        let place = Place { base: bases::base(seed), length, at };
         for (i, damage) in (0..).zip(damages(&self.filled, rng, calls)) {
             fault::call(i);
             if let Err(why) = self.turn(&place, &damage, rng) {
-                self.seen.differs(&format!("store of seed {seed} ({}), call {i}, {damage:?}: {why}", place.base.kind));
+                let what = || format!("store of seed {seed} ({}), call {i}, {damage:?}: {why}", place.base.kind);
+                self.seen.differences.add(what);
+                self.progress.differs();
                 self.memory.store.all().fill(UNWRITTEN);
                 self.refill(&place);
             }
+            self.progress.turn();
         }
+        fault::rest();
     }
 
     fn store(&mut self, place: &Place) -> &mut [u8] {
@@ -213,4 +249,24 @@ fn header_damage(rng: &mut Rng) -> Damage {
     let words = (0..rng.below(3)).map(|_| (4 * rng.below(header::END / 4), rng.below(4) as u32)).collect();
     let length = if rng.chance(5) { Some(rng.below(BYTES)) } else { None };
     Damage { kind: "words of the header", words, length, must: Must::Either }
+}
+
+#[cfg(test)]
+mod tests {
+    use super::*;
+
+    #[test]
+    fn the_same_numbers_on_one_thread_and_on_two() {
+        let numbers = |report: Report| report.met.split(';').next().map(str::to_string);
+        let [one, two] = [1, 2].map(|threads| run_on(threads, 9_000, 6).unwrap());
+        assert_eq!((one.differences, two.differences), (0, 0));
+        assert_eq!(numbers(one), numbers(two));
+    }
+
+    #[test]
+    fn the_plan_is_all_calls() {
+        for calls in [0, 1, 1_500, 20_001] {
+            assert_eq!(plan(calls, 7).iter().map(|(_, calls)| calls).sum::<u64>(), calls);
+        }
+    }
 }

@@ -1,6 +1,8 @@
 //! What the calls on any bytes met, and the longest of them.
 
 use crate::making::KINDS;
+use crate::progress::grouped;
+use crate::report::Differences;
 use std::collections::BTreeMap;
 
 /// A load stands behind the other kinds of calls.
@@ -17,7 +19,7 @@ pub struct Seen {
     bases: BTreeMap<&'static str, (u64, f64)>,
     /// By the kind of call, the number and the kind of store: the longest, in microseconds, and what was damaged.
     longest: BTreeMap<(usize, u32, &'static str), (f64, &'static str)>,
-    differences: u64,
+    pub differences: Differences,
 }
 
 impl Seen {
@@ -32,16 +34,40 @@ impl Seen {
         }
     }
 
-    pub fn calls(&self) -> u64 {
+    /// Adds what a later part of the run met.
+    pub fn merge(&mut self, later: Seen) {
+        later.numbers.into_iter().for_each(|(of, count)| *self.numbers.entry(of).or_default() += count);
+        for (base, (calls, sum)) in later.bases {
+            let all = self.bases.entry(base).or_default();
+            *all = (all.0 + calls, all.1 + sum);
+        }
+        for (of, one) in later.longest {
+            let longest = self.longest.entry(of).or_default();
+            if one.0 > longest.0 {
+                *longest = one;
+            }
+        }
+        self.differences.merge(later.differences);
+    }
+
+    fn calls(&self) -> u64 {
         self.numbers.values().sum()
     }
 
-    /// Counts a difference and prints the first.
-    pub fn differs(&mut self, what: &str) {
-        if self.differences == 0 {
-            println!("FIRST DIFFERENCE: {what}");
-        }
-        self.differences += 1;
+    /// The numbers that were returned, and how often.
+    pub fn met(&self) -> String {
+        let mut sums = BTreeMap::new();
+        self.numbers.iter().for_each(|((_, number), count)| *sums.entry(*number).or_insert(0) += count);
+        let numbers = sums.into_iter().map(|(number, count)| match number {
+            0 => format!("accepted {}", grouped(count)),
+            number => format!("{number}: {}", grouped(count)),
+        });
+        numbers.collect::<Vec<_>>().join(", ")
+    }
+
+    /// Milliseconds of the longest call.
+    pub fn longest(&self) -> f64 {
+        self.longest.values().map(|longest| longest.0).fold(0.0, f64::max) / 1e3
     }
 
     pub fn print(&self) {
@@ -66,12 +92,6 @@ impl Seen {
             let what = if *number == 0 { "accepted".to_string() } else { format!("refused with {number}") };
             println!("    {taken:.0}: {}, {what}; store: {base}; damage: {damage}", name(*kind));
         }
-    }
-
-    /// Prints how many differences there were; whether there were none.
-    pub fn end(&self) -> bool {
-        println!("{} differences", self.differences);
-        self.differences == 0
     }
 }
 

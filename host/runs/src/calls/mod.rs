@@ -14,6 +14,10 @@ use crate::lower::Named;
 use crate::making::{make, Made};
 use crate::nameres::expected::Right;
 use crate::nameres::{long_texts, points, sheets};
+use crate::progress::Progress;
+use crate::realistic;
+use crate::report::{Differences, Report};
+use crate::split::{split, threads};
 use crate::store::Lent;
 use book::{locality, Book, Call, Outcome, REPLY_BYTES};
 use canon::{Facts, Reading};
@@ -27,23 +31,47 @@ use tix::{with_big_stack, Tix};
 /// How many times more calls a load gets whose texts are to spend the change room.
 const GREEDY: u64 = 4;
 
-/// Loads so many sheets and makes so many calls on all of them together; whether all was as it should be.
-pub fn run(loads: u64, calls: u64, seed: u64) -> Result<bool, String> {
-    with_big_stack(|| {
-        let sheets = Sheets::new()?;
-        let mut run = Run { lent: Lent::new(), before: Vec::new(), seen: Seen::default(), differences: 0 };
-        for i in 0..loads {
-            let seed = seed.wrapping_add(i);
-            let left = calls - run.seen.calls;
-            // A little less for each load, so that the greedy ones, one in eight, can have more.
-            let share = left.div_ceil(loads - i) * 8 / (7 + GREEDY);
-            let share = if draw::greedy(seed) { GREEDY * share } else { share };
-            run.load(&sheets, seed, if i + 1 == loads { left } else { share.min(left) });
-        }
-        run.seen.print();
-        println!("{} differences", run.differences);
-        Ok(run.differences == 0 && run.seen.complete())
-    })
+/// So many loads are one part of a run.
+const EACH: u64 = 4;
+
+/// Loads so many sheets and makes so many calls on all of them together.
+pub fn run(loads: u64, calls: u64, seed: u64) -> Result<Report, String> {
+    run_on(threads(), loads, calls, seed)
+}
+
+fn run_on(threads: usize, loads: u64, calls: u64, seed: u64) -> Result<Report, String> {
+    let sheets = with_big_stack(Sheets::new)?;
+    let shares = shares(loads, calls, seed);
+    let progress = Progress::new("calls", calls);
+    // Every load soils the store first, so that one store after the other would do.
+    let parts = split(threads, loads, EACH, Lent::new, |lent, turns| {
+        let mut run = Run { lent, before: Vec::new(), seen: Seen::default(), differences: Differences::default(), progress: &progress };
+        turns.for_each(|i| run.load(&sheets, seed.wrapping_add(i), shares[i as usize]));
+        (run.seen, run.differences)
+    });
+    drop(progress);
+    let (mut seen, mut differences) = (Seen::default(), Differences::default());
+    for (later, differing) in parts {
+        seen.merge(&later);
+        differences.merge(differing);
+    }
+    seen.print();
+    differences.print();
+    println!("{} differences", differences.count);
+    Ok(Report { met: seen.met(), differences: differences.count, complete: seen.complete() })
+}
+
+/// How many calls each load gets: a little less than its share, so that the greedy ones, one in eight, can have more.
+fn shares(loads: u64, calls: u64, seed: u64) -> Vec<u64> {
+    let mut left = calls;
+    let share = |i: u64| {
+        let share = left.div_ceil(loads - i) * 8 / (7 + GREEDY);
+        let share = if draw::greedy(seed.wrapping_add(i)) { GREEDY * share } else { share };
+        let share = if i + 1 == loads { left } else { share.min(left) };
+        left -= share;
+        share
+    };
+    (0..loads).map(share).collect()
 }
 
 /// The sheets that are not random, and have a text to change.
@@ -60,12 +88,14 @@ impl Sheets {
         Ok(Sheets { points: points.collect(), large: sheets::large(), long: long_texts() })
     }
 
-    /// The sheet of a seed: every fourth is a point, one in fifty a large one, one has long texts, and the others are random.
+    /// The sheet of a seed: every fourth is a point, one in fifty a large one, one has long texts, one is like a NixOS module, and the
+    /// others are random.
     fn of_seed(&self, seed: u64) -> Named {
         let turn = |list: &[Named], number: u64| list[number as usize % list.len()].clone();
         match seed % 50 {
             7 => turn(&self.large, seed / 50),
             31 => self.long.clone(),
+            43 => realistic::named(seed, 512),
             _ if seed.is_multiple_of(4) => turn(&self.points, seed / 4),
             _ => Named { name: "a random sheet".to_string(), nodes: grown(&mut Rng::new(seed)) },
         }
@@ -93,15 +123,16 @@ fn grown(rng: &mut Rng) -> Vec<Node> {
     }
 }
 
-struct Run {
-    lent: Lent,
+struct Run<'a> {
+    lent: &'a mut Lent,
     /// The store with the bytes about it before a call that is to leave them as they are.
     before: Vec<u8>,
     seen: Seen,
-    differences: u64,
+    differences: Differences,
+    progress: &'a Progress,
 }
 
-impl Run {
+impl Run<'_> {
     /// Loads the sheet of a seed and makes so many calls, or until something differs.
     fn load(&mut self, sheets: &Sheets, seed: u64, calls: u64) {
         let sheet = sheets.of_seed(seed);
@@ -111,12 +142,14 @@ impl Run {
         if let Err(why) = exported::loaded(&sheet::write(&sheet.nodes), store).and_then(|()| loaded.right.holds(store)) {
             return self.differs(&sheet, &format!("seed {seed}, as loaded: {why}"));
         }
-        self.before = self.lent.all().to_vec();
+        self.before.clear();
+        self.before.extend(self.lent.all());
         let mut drawn = Calls::new(seed);
         for i in 1..=calls {
             let call = drawn.next(&loaded.right.facts, loaded.right.spent());
+            self.progress.turn();
             if let Err(why) = self.call(&mut loaded, &call) {
-                self.lent = Lent::new();
+                *self.lent = Lent::new();
                 return self.differs(&sheet, &format!("seed {seed}, call {i}, `{call}`: {why}"));
             }
         }
@@ -141,12 +174,9 @@ impl Run {
         Ok(())
     }
 
-    /// Counts a difference and prints the first with its sheet.
     fn differs(&mut self, sheet: &Named, what: &str) {
-        self.differences += 1;
-        if self.differences == 1 {
-            sheet.print_difference(what);
-        }
+        self.differences.add(|| sheet.difference(what));
+        self.progress.differs();
     }
 }
 
@@ -196,5 +226,26 @@ fn change_call(change: changes::Change) -> Call {
     match change.target {
         changes::Target::Name(number) => Call::ChangeName { number, text, reply },
         changes::Target::Reference(number) => Call::ChangeReference { number, text, reply },
+    }
+}
+
+#[cfg(test)]
+mod tests {
+    use super::*;
+
+    #[test]
+    fn the_same_on_one_thread_and_on_two() {
+        let [one, two] = [1, 2].map(|threads| run_on(threads, 3 * EACH, 200, 3).unwrap());
+        assert_eq!((one.met, one.differences), (two.met, two.differences));
+        assert_eq!(one.differences, 0);
+    }
+
+    #[test]
+    fn shares_are_all_calls() {
+        for (loads, calls) in [(1, 7), (60, 3_000), (1_000, 50_000), (1_000, 10)] {
+            assert_eq!(shares(loads, calls, 1).iter().sum::<u64>(), calls);
+        }
+        let greedy = shares(1_000, 50_000, 0)[8];
+        assert!((100..300).contains(&greedy), "{greedy}");
     }
 }

@@ -4,6 +4,7 @@ use super::changes::text_of;
 use super::draw::target;
 use super::Loaded;
 use crate::making::{kind, KINDS};
+use crate::progress::grouped;
 use book::{Call, Outcome, ROOM_BYTES};
 use canon::Facts;
 
@@ -69,6 +70,41 @@ impl Seen {
         self.names += first.module.names.len() as u64;
         self.references += first.resolution.answers.len() as u64;
         self.spent += u64::from(spent == ROOM_BYTES);
+    }
+
+    /// Adds what a later part of the run met.
+    pub fn merge(&mut self, later: &Seen) {
+        let add = |sums: &mut [u64], counts: &[u64]| sums.iter_mut().zip(counts).for_each(|(sum, count)| *sum += count);
+        self.numbers.iter_mut().zip(&later.numbers).for_each(|(sums, counts)| add(sums, counts));
+        add(&mut self.answers, &later.answers);
+        self.calls += later.calls;
+        self.loads += later.loads;
+        self.names += later.names;
+        self.references += later.references;
+        self.told += later.told;
+        self.equal += later.equal;
+        self.equal_over += later.equal_over;
+        self.equal_spent += later.equal_spent;
+        self.empty += later.empty;
+        self.long += later.long;
+        self.back += later.back;
+        self.moving += later.moving;
+        self.moved += later.moved;
+        self.spent += later.spent;
+    }
+
+    pub fn met(&self) -> String {
+        let numbers = (0..NUMBERS.len()).map(|column| {
+            let count = grouped(self.numbers.iter().map(|kind| kind[column]).sum());
+            if column == 0 {
+                format!("accepted {count}")
+            } else {
+                format!("{}: {count}", NUMBERS[column])
+            }
+        });
+        let numbers: Vec<String> = numbers.collect();
+        let (loads, moved, spent) = (grouped(self.loads), grouped(self.moved), grouped(self.spent));
+        format!("{loads} loads; {}; {moved} answers moved; the room spent in {spent} loads", numbers.join(", "))
     }
 
     /// Whether every refusal and every answer came up where it can, and what document 01 says of equal texts too.

@@ -20,13 +20,11 @@ pub struct Named {
 }
 
 impl Named {
-    /// Prints what is wrong with it, and the sheet itself where it is short.
-    pub fn print_difference(&self, what: &str) {
-        println!("FIRST DIFFERENCE: {}: {what}", self.name);
+    /// What is wrong with it, and the sheet itself where it is short.
+    pub fn difference(&self, what: &str) -> String {
         let written = sheet::write(&self.nodes);
-        if written.len() <= PRINTED {
-            println!("{}", String::from_utf8_lossy(&written));
-        }
+        let shown = if written.len() <= PRINTED { String::from_utf8_lossy(&written) } else { "".into() };
+        format!("{}: {what}\n{shown}", self.name)
     }
 }
 

@@ -1,10 +1,12 @@
 //! Microseconds for one asking and for one change of a text, the check of the store included, beside the Rust, which has no changes and
 //! works everything out again.
 
-use super::{median, random, rust, time, Pair, ROUNDS, SHEETS};
+use super::{cells, median, micros, rust, time, Pair, Row, FAMILIES, ROUNDS, SHEETS};
 use crate::calls::changes::{text_of, Target};
 use crate::exported::{self, REPLY};
 use crate::nameres::sheets;
+use crate::progress::{grouped, Progress};
+use crate::realistic::SIZES;
 use crate::store::layout::{header, put, EXPRS};
 use crate::store::Lent;
 use canon::{Answer, Facts, Reading};
@@ -28,22 +30,42 @@ const CHOICES: [Choice; 3] = [
 /// For a sheet without names.
 const FIRST: Choice = ("the first Reference", |facts| facts.resolution.answers.keys().next().copied().map(Target::Reference));
 
-/// Prints a table of random sheets of two sizes, and of large ones.
-pub fn run() -> Result<(), String> {
-    println!("| Sheets | One call about | Moved | Ask | Change | Rust: scopes, answers | Change to Rust | Rust: all from the bytes | Change to Rust |");
-    println!("|---|---|---|---|---|---|---|---|---|");
-    for nodes in [512, 4_096] {
-        let sheets = random(nodes, false);
-        for choice in CHOICES {
-            family(&format!("{SHEETS} random, of {nodes} nodes"), choice, &sheets)?;
+/// The rows of the large shapes: how many of them share a row.
+const SHAPES: [(usize, &str); 6] = [
+    (2, "250 nested lets, uses of all of them; of none"),
+    (2, "a pattern of 1,300 fields; a rec set of 1,020 keys"),
+    (2, "a rec set of 4,093 inherited names; a let of 3,992"),
+    (2, "a let of 2,046 inherited names, used; not used"),
+    (1, "a parameter with 4,091 uses"),
+    (1, "253 nested Withs"),
+];
+
+/// The families that are asked about and changed: those all about keys are like the random ones.
+const ASKED: [usize; 2] = [0, 2];
+
+/// How many rows the table has.
+pub fn rows() -> usize {
+    ASKED.len() * SIZES.len() * CHOICES.len() + SHAPES.len()
+}
+
+pub fn shapes() -> Result<Vec<Row>, String> {
+    super::rows(sheets::large(), &SHAPES)
+}
+
+/// Prints a table of sheets of three sizes, and of large ones.
+pub fn run(progress: &Progress) -> Result<(), String> {
+    progress.tell("| Sheets | One call about | Answers moved | Ask | Change | Rust: scopes, answers | Change to Rust | Rust: all |");
+    progress.tell("|---|---|---|---|---|---|---|---|");
+    for (name, family) in ASKED.map(|number| FAMILIES[number]) {
+        for nodes in SIZES {
+            let sheets = family(nodes);
+            let name = format!("{SHEETS} {name}, of {} nodes", grouped(nodes as u64));
+            CHOICES.iter().try_for_each(|choice| many(progress, &name, choice, &sheets))?;
         }
     }
-    for sheet in sheets::large() {
-        let choice = if Tix::new(&sheet.nodes).facts().module.names.is_empty() { FIRST } else { CHOICES[0] };
-        family(&sheet.name, choice, &[sheet.nodes])?;
-    }
-    println!("a change to a text that nothing bears, and back, of which the mean is taken; moved: how many answers that moves;");
-    println!("the Rust has no changes and works everything out again: scopes and answers, or all from the sheet's bytes");
+    shapes()?.iter().try_for_each(|row| shared(progress, row))?;
+    progress.tell("a change to a text that nothing bears, and back, of which the mean is taken; moved: how many answers that moves;");
+    progress.tell("the Rust has no changes and works everything out again: scopes and answers, or all from the sheet's bytes");
     Ok(())
 }
 
@@ -74,24 +96,46 @@ struct Measured {
     moved: usize,
     ask: f64,
     again: Pair,
-    whole: Pair,
+    /// Of the Rust, for all from the sheet's bytes.
+    whole: f64,
 }
 
-fn family(name: &str, (what, choice): Choice, sheets: &[Vec<Node>]) -> Result<(), String> {
+/// Prints a row of many sheets, those that have what is asked about.
+fn many(progress: &Progress, name: &str, (what, choice): &Choice, sheets: &[Vec<Node>]) -> Result<(), String> {
     let mut lent = Lent::new();
     let mut all = Vec::new();
     for sheet in sheets {
-        all.extend(measure(lent.store(), sheet, choice)?);
+        all.extend(measure(lent.store(), sheet, *choice)?);
     }
+    progress.turn();
     if all.is_empty() {
         return Ok(());
     }
-    let moved = median(all.iter().map(|one| one.moved as f64).collect());
-    let ask = median(all.iter().map(|one| one.ask).collect());
-    let pairs = |part: fn(&Measured) -> &Pair| all.iter().map(part).collect::<Vec<_>>();
-    let (again, whole) = (pairs(|one| &one.again), pairs(|one| &one.whole));
-    let (compiled, again, whole) = (Pair::compiled(&again), Pair::rust(&again), Pair::rust(&whole));
-    println!("| {name} | {what} | {moved} | {ask:.1} | {compiled:.1} | {again} | {whole} |");
+    let middle = |part: fn(&Measured) -> f64| median(all.iter().map(part).collect());
+    let (moved, ask, whole) = (middle(|one| one.moved as f64), middle(|one| one.ask), middle(|one| one.whole));
+    let again: Vec<&Pair> = all.iter().map(|one| &one.again).collect();
+    let (change, rust) = (micros(Pair::compiled(&again)), micros(Pair::rust(&again)));
+    let (moved, ask, ratio, whole) = (grouped(moved as u64), micros(ask), Pair::ratio(&again), micros(whole));
+    progress.tell(&format!("| {name} | {what} | {moved} | {ask} | {change} | {rust} | {ratio} | {whole} |"));
+    Ok(())
+}
+
+/// Prints a row that some sheets share, about the name that each uses most, or the first Reference where there are no names.
+fn shared(progress: &Progress, row: &Row) -> Result<(), String> {
+    let mut lent = Lent::new();
+    let (mut whats, mut all) = (Vec::new(), Vec::new());
+    for sheet in &row.sheets {
+        let nameless = Tix::new(&sheet.nodes).facts().module.names.is_empty();
+        let (what, choice) = if nameless { FIRST } else { CHOICES[0] };
+        whats.push(what.to_string());
+        all.extend(measure(lent.store(), &sheet.nodes, choice)?);
+    }
+    let column = |cell: fn(&Measured) -> String| cells(all.iter().map(cell).collect());
+    let (what, moved, ask) = (cells(whats), column(|one| grouped(one.moved as u64)), column(|one| micros(one.ask)));
+    let (change, rust) = (column(|one| micros(one.again.compiled)), column(|one| micros(one.again.rust)));
+    let (ratio, whole) = (column(|one| Pair::ratio(&[&one.again])), column(|one| micros(one.whole)));
+    progress.tell(&format!("| {} | {what} | {moved} | {ask} | {change} | {rust} | {ratio} | {whole} |", row.name));
+    progress.turn();
     Ok(())
 }
 
@@ -122,7 +166,7 @@ fn measure(store: &mut [u8], nodes: &[Node], choice: fn(&Facts) -> Option<Target
     };
     same(store, target, &mut buffer, &facts)?;
     let [ask, compiled, again, whole] = times.map(median);
-    Ok(Some(Measured { moved, ask, again: Pair { compiled, rust: again }, whole: Pair { compiled, rust: whole } }))
+    Ok(Some(Measured { moved, ask, again: Pair { compiled, rust: again }, whole }))
 }
 
 /// Asks; the number and the words that were told.

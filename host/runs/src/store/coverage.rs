@@ -37,6 +37,14 @@ impl Coverage {
         }
     }
 
+    /// Adds what a later part of the run had.
+    pub fn merge(&mut self, later: &Coverage) {
+        let add = |sums: &mut [u64], counts: &[u64]| sums.iter_mut().zip(counts).for_each(|(sum, count)| *sum += count);
+        add(&mut self.sorts, &later.sorts);
+        add(&mut self.tags, &later.tags);
+        add(&mut self.limits, &later.limits);
+    }
+
     pub fn print_sorts(&self) {
         println!("expressions of sorts 0 to 28: {:?}", self.sorts);
         println!("items of tags 0 to 9: {:?}", self.tags);

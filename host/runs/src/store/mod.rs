@@ -20,7 +20,7 @@ pub mod page;
 pub mod resolve;
 pub mod runs;
 pub mod same;
-mod sites;
+pub mod sites;
 pub mod sound;
 
 use generate::Rng;

@@ -11,6 +11,9 @@ use super::same::same_module;
 use super::sound::condition;
 use super::{page, Lent};
 use crate::exported;
+use crate::progress::{grouped, Progress};
+use crate::report::Report;
+use crate::split::{split, threads};
 use generate::Rng;
 use std::collections::BTreeMap;
 
@@ -25,19 +28,22 @@ struct Run {
     coverage: Coverage,
 }
 
-/// Builds so many modules and damages them at least so many times in all; whether all was as it should be.
-pub fn run(fills: u64, damages: u64, seed: u64) -> bool {
+/// So many modules, and so many stores of any bytes, are one part of a run.
+const EACH: u64 = 4;
+
+/// Builds so many modules and damages them at least so many times in all.
+pub fn run(fills: u64, damages: u64, seed: u64) -> Report {
+    run_on(threads(), fills, damages, seed)
+}
+
+fn run_on(threads: usize, fills: u64, damages: u64, seed: u64) -> Report {
+    let (each, wholes) = (damages.div_ceil(fills.max(1)), damages.div_ceil(20));
     let mut run = Run::default();
-    let mut lent = Lent::new();
-    let each = damages.div_ceil(fills.max(1));
-    for i in 0..fills {
-        run.fill(&mut lent, seed.wrapping_add(i), each);
-    }
-    for i in 0..damages.div_ceil(20) {
-        run.whole(&mut lent, seed.wrapping_add(i));
-    }
+    run.family(threads, "modules and their damage", fills, |run, lent, i| run.fill(lent, seed.wrapping_add(i), each));
+    run.family(threads, "any bytes", wholes, |run, lent, i| run.whole(lent, seed.wrapping_add(i)));
     run.print(fills);
-    run.differences.is_empty()
+    let differences = run.differences.values().map(|(count, _)| count).sum();
+    Report { met: run.met(fills), differences, complete: true }
 }
 
 /// Writes the random module of a seed into a store.
@@ -50,6 +56,47 @@ pub fn filled<T>(store: &mut [u8], size: &Size, rng: &mut Rng, look: impl FnOnce
 }
 
 impl Run {
+    /// So many stores, each by its number. Every one is soiled before anything else, so that it is the same in any store that is lent.
+    fn family(&mut self, threads: usize, family: &str, count: u64, store: impl Fn(&mut Run, &mut Lent, u64) + Sync) {
+        let progress = Progress::new(format!("stores, {family}"), count);
+        let parts = split(threads, count, EACH, Lent::new, |lent, turns| {
+            let mut run = Run::default();
+            for i in turns {
+                let before = run.differences.len();
+                store(&mut run, lent, i);
+                (before..run.differences.len()).for_each(|_| progress.differs());
+                progress.turn();
+            }
+            run
+        });
+        drop(progress);
+        parts.into_iter().for_each(|part| self.merge(part));
+    }
+
+    fn merge(&mut self, later: Run) {
+        for (kind, counts) in later.seen {
+            self.seen.entry(kind).or_default().iter_mut().zip(counts).for_each(|(sum, count)| *sum += count);
+        }
+        for (kind, (count, first)) in later.differences {
+            self.differences.entry(kind).or_insert((0, first)).0 += count;
+        }
+        self.coverage.merge(&later.coverage);
+    }
+
+    fn met(&self, fills: u64) -> String {
+        let sums = self.sums();
+        let stores = CONDITIONS.iter().zip(sums).map(|(number, count)| format!("{number}: {}", grouped(count)));
+        let stores: Vec<String> = stores.collect();
+        format!("{} modules read back; {} stores judged, {}", grouped(fills), grouped(sums.iter().sum()), stores.join(", "))
+    }
+
+    /// How many stores there were of each condition.
+    fn sums(&self) -> [u64; 4] {
+        let mut sums = [0; 4];
+        self.seen.values().for_each(|seen| sums.iter_mut().zip(seen).for_each(|(sum, count)| *sum += count));
+        sums
+    }
+
     /// One module: written over soiled bytes, read back, and damaged so many times.
     fn fill(&mut self, lent: &mut Lent, seed: u64, damages: u64) {
         let mut rng = Rng::new(seed);
@@ -65,6 +112,7 @@ impl Run {
         self.damage(lent.store(), &mut rng, sound, damages, seed);
         if !lent.margins_stand() {
             self.differs("filled store", format!("seed {seed}, bytes outside the store were written"));
+            *lent = Lent::new();
         }
     }
 
@@ -127,12 +175,10 @@ impl Run {
         self.coverage.print();
         println!("stores by kind and condition:");
         println!("{:<34} {:>8} {:>8} {:>8} {:>8} {:>8}", "", "all", "0", "21", "22", "23");
-        let mut sums = [0; 4];
         for (kind, seen) in &self.seen {
             print_row(kind, *seen);
-            sums.iter_mut().zip(seen).for_each(|(sum, count)| *sum += count);
         }
-        print_row("all", sums);
+        print_row("all", self.sums());
         for kind in KINDS.iter().filter(|&&kind| !self.seen.contains_key(kind)) {
             println!("no store had a place for: {kind}");
         }
@@ -167,4 +213,16 @@ pub fn small_header(store: &mut [u8], rng: &mut Rng) {
 fn print_row(kind: &str, seen: [u64; 4]) {
     let [sound, short, broken, empty] = seen;
     println!("{kind:<34} {:>8} {sound:>8} {short:>8} {broken:>8} {empty:>8}", seen.iter().sum::<u64>());
+}
+
+#[cfg(test)]
+mod tests {
+    use super::*;
+
+    #[test]
+    fn the_same_on_one_thread_and_on_two() {
+        let [one, two] = [1, 2].map(|threads| run_on(threads, 3 * EACH, 200, 1));
+        assert_eq!((one.met, one.differences), (two.met, two.differences));
+        assert_eq!(one.differences, 0);
+    }
 }

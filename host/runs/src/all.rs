@@ -1,0 +1,113 @@
+//! All runs, one after the other, short or at scale, and at the end one table of what they came to. A difference in one does not keep the
+//! others from being run.
+
+use crate::progress::grouped;
+use crate::report::Report;
+use std::panic::{catch_unwind, AssertUnwindSafe};
+use std::time::Instant;
+
+/// How much is run.
+#[derive(Debug, Clone, Copy, PartialEq, Eq)]
+pub enum Scale {
+    /// Some five minutes.
+    Short,
+    /// As docs/DIFFERENCES.md has it.
+    Full,
+}
+
+/// A row of the table.
+struct Row {
+    run: String,
+    outcome: Result<Report, String>,
+    seconds: f64,
+}
+
+/// The runs of a scale. Each is a command and the numbers it is given, before the seed where it takes one.
+fn runs(scale: Scale) -> Vec<(&'static str, Vec<u64>)> {
+    let sized = match scale {
+        Scale::Short => vec![
+            ("sheets", vec![100_000, 20_000]),
+            ("loads", vec![50_000, 400]),
+            ("loads", vec![2_000, 4_096]),
+            ("calls", vec![1_000, 50_000]),
+            ("stores", vec![300, 10_000]),
+            ("any", vec![1_000_000]),
+        ],
+        Scale::Full => vec![
+            ("sheets", vec![1_000_000, 100_000]),
+            ("loads", vec![1_000_000, 200]),
+            ("loads", vec![5_000, 4_096]),
+            ("calls", vec![20_000, 1_000_000]),
+            ("stores", vec![2_000, 100_000]),
+            ("any", vec![10_000_000]),
+        ],
+    };
+    sized.into_iter().chain(["slow", "speed", "memory", "stack"].map(|run| (run, Vec::new()))).collect()
+}
+
+/// Does all of them; whether all was as it should be.
+pub fn run(scale: Scale, seed: u64) -> bool {
+    let mut rows = Vec::new();
+    for (command, mut numbers) in runs(scale) {
+        let run = std::iter::once(command.to_string()).chain(numbers.iter().map(|&number| grouped(number)));
+        let run = run.collect::<Vec<_>>().join(" ");
+        if !numbers.is_empty() {
+            numbers.push(seed);
+        }
+        println!("runs {}", std::iter::once(command.to_string()).chain(numbers.iter().map(u64::to_string)).collect::<Vec<_>>().join(" "));
+        let start = Instant::now();
+        // A panic is a difference of that run, and not the end of the others.
+        let made = catch_unwind(AssertUnwindSafe(|| crate::command(command, &numbers)));
+        let outcome = made.unwrap_or_else(|_| Err("it panicked".to_string()));
+        if let Err(why) = &outcome {
+            println!("{why}");
+        }
+        println!();
+        rows.push(Row { run, outcome, seconds: start.elapsed().as_secs_f64() });
+    }
+    table(&rows).iter().for_each(|line| println!("{line}"));
+    println!("seed {seed}");
+    rows.iter().all(|row| row.outcome.as_ref().is_ok_and(Report::right))
+}
+
+/// The lines of the table.
+fn table(rows: &[Row]) -> Vec<String> {
+    let mut lines = vec!["| Run | Met | Differences | Seconds |".to_string(), "|---|---|---|---|".to_string()];
+    for Row { run, outcome, seconds } in rows {
+        let (met, differences) = match outcome {
+            Ok(report) if report.complete => (report.met.clone(), grouped(report.differences)),
+            Ok(report) => (format!("NOT ALL THAT IS TO COME UP; {}", report.met), grouped(report.differences)),
+            Err(why) => (format!("ENDED: {}", why.lines().next().unwrap_or_default()), "–".to_string()),
+        };
+        lines.push(format!("| {run} | {met} | {differences} | {seconds:.0} |"));
+    }
+    lines
+}
+
+#[cfg(test)]
+mod tests {
+    use super::*;
+
+    #[test]
+    fn rows_of_all_sorts() {
+        let row = |outcome| Row { run: "any 10".to_string(), outcome, seconds: 1.6 };
+        let met = |differences, complete| Ok(Report { met: "accepted 7".to_string(), differences, complete });
+        let lines = table(&[row(met(0, true)), row(met(1_234, true)), row(met(0, false)), row(Err("no\nmemory".to_string()))]);
+        assert_eq!(
+            lines[2..],
+            [
+                "| any 10 | accepted 7 | 0 | 2 |",
+                "| any 10 | accepted 7 | 1,234 | 2 |",
+                "| any 10 | NOT ALL THAT IS TO COME UP; accepted 7 | 0 | 2 |",
+                "| any 10 | ENDED: no | – | 2 |",
+            ]
+        );
+    }
+
+    #[test]
+    fn every_run_is_a_command() {
+        for (command, numbers) in [Scale::Short, Scale::Full].into_iter().flat_map(runs) {
+            assert!(crate::USAGE.lines().any(|line| line.starts_with(&format!("runs {command} "))), "{command} {numbers:?}");
+        }
+    }
+}
