@@ -3,6 +3,7 @@
 
 use crate::progress::grouped;
 use crate::report::Report;
+use crate::split::threads;
 use std::panic::{catch_unwind, AssertUnwindSafe};
 use std::time::Instant;
 
@@ -17,7 +18,8 @@ pub enum Scale {
 
 /// A row of the table.
 struct Row {
-    run: String,
+    run: &'static str,
+    size: String,
     outcome: Result<Report, String>,
     seconds: f64,
 }
@@ -45,41 +47,56 @@ fn runs(scale: Scale) -> Vec<(&'static str, Vec<u64>)> {
     sized.into_iter().chain(["slow", "speed", "memory", "stack"].map(|run| (run, Vec::new()))).collect()
 }
 
+/// The size of a run, in words.
+fn size(command: &str, numbers: &[u64]) -> String {
+    let words: &[&str] = match command {
+        "sheets" => &[" damaged, ", " valid"],
+        "loads" => &[" random of up to ", " nodes"],
+        "calls" => &[" loads, ", " calls"],
+        "stores" => &[" modules, ", " damaged"],
+        "any" => &[" calls"],
+        _ => return "–".to_string(),
+    };
+    numbers.iter().zip(words).map(|(&number, word)| grouped(number) + word).collect()
+}
+
 /// Does all of them; whether all was as it should be.
 pub fn run(scale: Scale, seed: u64) -> bool {
-    let mut rows = Vec::new();
-    for (command, mut numbers) in runs(scale) {
-        let run = std::iter::once(command.to_string()).chain(numbers.iter().map(|&number| grouped(number)));
-        let run = run.collect::<Vec<_>>().join(" ");
-        if !numbers.is_empty() {
-            numbers.push(seed);
-        }
-        println!("runs {}", std::iter::once(command.to_string()).chain(numbers.iter().map(u64::to_string)).collect::<Vec<_>>().join(" "));
-        let start = Instant::now();
-        // A panic is a difference of that run, and not the end of the others.
-        let made = catch_unwind(AssertUnwindSafe(|| crate::command(command, &numbers)));
-        let outcome = made.unwrap_or_else(|_| Err("it panicked".to_string()));
-        if let Err(why) = &outcome {
-            println!("{why}");
-        }
-        println!();
-        rows.push(Row { run, outcome, seconds: start.elapsed().as_secs_f64() });
-    }
+    let rows: Vec<Row> = runs(scale).into_iter().map(|(command, numbers)| row(command, numbers, seed)).collect();
     table(&rows).iter().for_each(|line| println!("{line}"));
-    println!("seed {seed}");
+    println!("seed {seed}, {} threads", threads());
     rows.iter().all(|row| row.outcome.as_ref().is_ok_and(Report::right))
+}
+
+/// Does one of them.
+fn row(command: &'static str, mut numbers: Vec<u64>, seed: u64) -> Row {
+    let size = size(command, &numbers);
+    if !numbers.is_empty() {
+        numbers.push(seed);
+    }
+    let words = std::iter::once(command.to_string()).chain(numbers.iter().map(u64::to_string));
+    println!("runs {}", words.collect::<Vec<_>>().join(" "));
+    let start = Instant::now();
+    // A panic is a difference of that run, and not the end of the others.
+    let made = catch_unwind(AssertUnwindSafe(|| crate::command(command, &numbers)));
+    let outcome = made.unwrap_or_else(|_| Err("it panicked".to_string()));
+    if let Err(why) = &outcome {
+        println!("{why}");
+    }
+    println!();
+    Row { run: command, size, outcome, seconds: start.elapsed().as_secs_f64() }
 }
 
 /// The lines of the table.
 fn table(rows: &[Row]) -> Vec<String> {
-    let mut lines = vec!["| Run | Met | Differences | Seconds |".to_string(), "|---|---|---|---|".to_string()];
-    for Row { run, outcome, seconds } in rows {
+    let mut lines = vec!["| Run | Size | Met | Differences | Seconds |".to_string(), "|---|---|---|---|---|".to_string()];
+    for Row { run, size, outcome, seconds } in rows {
         let (met, differences) = match outcome {
             Ok(report) if report.complete => (report.met.clone(), grouped(report.differences)),
             Ok(report) => (format!("NOT ALL THAT IS TO COME UP; {}", report.met), grouped(report.differences)),
             Err(why) => (format!("ENDED: {}", why.lines().next().unwrap_or_default()), "–".to_string()),
         };
-        lines.push(format!("| {run} | {met} | {differences} | {seconds:.0} |"));
+        lines.push(format!("| {run} | {size} | {met} | {differences} | {seconds:.0} |"));
     }
     lines
 }
@@ -90,18 +107,25 @@ mod tests {
 
     #[test]
     fn rows_of_all_sorts() {
-        let row = |outcome| Row { run: "any 10".to_string(), outcome, seconds: 1.6 };
+        let row = |outcome| Row { run: "any", size: size("any", &[10]), outcome, seconds: 1.6 };
         let met = |differences, complete| Ok(Report { met: "accepted 7".to_string(), differences, complete });
         let lines = table(&[row(met(0, true)), row(met(1_234, true)), row(met(0, false)), row(Err("no\nmemory".to_string()))]);
         assert_eq!(
             lines[2..],
             [
-                "| any 10 | accepted 7 | 0 | 2 |",
-                "| any 10 | accepted 7 | 1,234 | 2 |",
-                "| any 10 | NOT ALL THAT IS TO COME UP; accepted 7 | 0 | 2 |",
-                "| any 10 | ENDED: no | – | 2 |",
+                "| any | 10 calls | accepted 7 | 0 | 2 |",
+                "| any | 10 calls | accepted 7 | 1,234 | 2 |",
+                "| any | 10 calls | NOT ALL THAT IS TO COME UP; accepted 7 | 0 | 2 |",
+                "| any | 10 calls | ENDED: no | – | 2 |",
             ]
         );
+    }
+
+    #[test]
+    fn sizes_in_words() {
+        assert_eq!(size("sheets", &[1_000_000, 100_000]), "1,000,000 damaged, 100,000 valid");
+        assert_eq!(size("loads", &[5_000, 4_096]), "5,000 random of up to 4,096 nodes");
+        assert_eq!(size("stack", &[]), "–");
     }
 
     #[test]

@@ -12,7 +12,7 @@ use crate::store::sites::elements;
 use crate::store::Lent;
 use sheet::Node;
 use std::alloc::{GlobalAlloc, Layout, System};
-use std::sync::atomic::{AtomicBool, AtomicI64, Ordering::Relaxed};
+use std::cell::Cell;
 use tix::with_big_stack;
 
 /// The system's allocator, which counts the bytes that are asked for while it is told to.
@@ -21,18 +21,19 @@ struct Counting;
 #[global_allocator]
 static ALLOCATOR: Counting = Counting;
 
-static COUNTS: AtomicBool = AtomicBool::new(false);
-static LIVE: AtomicI64 = AtomicI64::new(0);
-static PEAK: AtomicI64 = AtomicI64::new(0);
-static BLOCKS: AtomicI64 = AtomicI64::new(0);
+thread_local! {
+    /// Of this thread alone: whether it counts, the bytes and the blocks that it has more than at the start, and the most bytes. They are
+    /// there from the start and are never dropped, or else the allocator could not use them.
+    static COUNTS: Cell<bool> = const { Cell::new(false) };
+    static NOW: Cell<Allocated> = const { Cell::new(Allocated { live: 0, peak: 0, blocks: 0 }) };
+}
 
 impl Counting {
     /// Outside of a count this is one look at a flag, so that the times of `speed` stay what they are.
     fn count(bytes: i64, blocks: i64) {
-        if COUNTS.load(Relaxed) {
-            let live = LIVE.fetch_add(bytes, Relaxed) + bytes;
-            PEAK.fetch_max(live, Relaxed);
-            BLOCKS.fetch_add(blocks, Relaxed);
+        if COUNTS.get() {
+            let Allocated { live, peak, blocks: before } = NOW.get();
+            NOW.set(Allocated { live: live + bytes, peak: peak.max(live + bytes), blocks: before + blocks });
         }
     }
 }
@@ -73,15 +74,14 @@ struct Allocated {
     blocks: i64,
 }
 
-/// What the work allocates. No other thread may be at work meanwhile.
+/// What the work allocates on this thread.
 fn allocated<T>(work: impl FnOnce() -> T) -> Allocated {
-    [&LIVE, &PEAK, &BLOCKS].into_iter().for_each(|counter| counter.store(0, Relaxed));
-    COUNTS.store(true, Relaxed);
+    NOW.set(Allocated { live: 0, peak: 0, blocks: 0 });
+    COUNTS.set(true);
     let made = std::hint::black_box(work());
-    COUNTS.store(false, Relaxed);
-    let allocated = Allocated { live: LIVE.load(Relaxed), peak: PEAK.load(Relaxed), blocks: BLOCKS.load(Relaxed) };
+    COUNTS.set(false);
     drop(made);
-    allocated
+    NOW.get()
 }
 
 /// The bytes of one sheet.
@@ -181,14 +181,15 @@ fn print(all: &[Bytes]) {
 mod tests {
     use super::*;
 
-    /// Other tests allocate meanwhile, so that what is counted is only bounded from below.
     #[test]
     fn what_is_allocated_is_counted() {
         let counted = allocated(|| {
             drop(vec![1_u8; 1 << 24]);
-            vec![1_u8; 1 << 20]
+            let mut kept = vec![1_u8; 1_000];
+            kept.reserve_exact(1_000);
+            (kept, Box::new(0_u64))
         });
-        assert!(counted.peak >= 1 << 24 && counted.live < 1 << 24, "{counted:?}");
+        assert_eq!(counted, Allocated { live: 2_008, peak: 1 << 24, blocks: 2 });
     }
 
     #[test]

@@ -59,7 +59,7 @@ pub fn run(progress: &Progress) -> Result<(), String> {
     for (name, family) in ASKED.map(|number| FAMILIES[number]) {
         for nodes in SIZES {
             let sheets = family(nodes);
-            let name = format!("{SHEETS} {name}, of {} nodes", grouped(nodes as u64));
+            let name = format!("{SHEETS} {name} of {} nodes", grouped(nodes as u64));
             CHOICES.iter().try_for_each(|choice| many(progress, &name, choice, &sheets))?;
         }
     }
