@@ -57,7 +57,11 @@ fn run(words: &[&str]) -> Result<bool, String> {
     let (command, words) = words.split_first().ok_or(USAGE)?;
     if *command == "all" {
         let (full, numbers): (Vec<&str>, Vec<&str>) = words.iter().copied().partition(|word| *word == "full");
-        let scale = if full.is_empty() { Scale::Short } else { Scale::Full };
+        let scale = match full.len() {
+            0 => Scale::Short,
+            1 => Scale::Full,
+            _ => return Err(USAGE.to_string()),
+        };
         return Ok(all::run(scale, first(&all_numbers(&numbers)?)?));
     }
     Ok(self::command(command, &all_numbers(words)?)?.right())

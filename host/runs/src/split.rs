@@ -3,7 +3,7 @@
 
 use std::collections::BTreeMap;
 use std::ops::Range;
-use std::sync::atomic::{AtomicU64, Ordering};
+use std::sync::atomic::{AtomicBool, AtomicU64, Ordering};
 use std::sync::Mutex;
 use std::thread;
 use tix::with_big_stack;
@@ -25,13 +25,14 @@ pub fn split<S, T: Send>(
     state: impl Fn() -> S + Sync,
     work: impl Fn(&mut S, Range<u64>) -> T + Sync,
 ) -> Vec<T> {
-    let next = AtomicU64::new(0);
+    let (next, broken) = (AtomicU64::new(0), AtomicBool::new(false));
     let parts = Mutex::new(BTreeMap::new());
     let worker = || {
+        let _breaks = Breaks(&broken);
         let mut state = state();
         loop {
             let from = next.fetch_add(each, Ordering::Relaxed);
-            if from >= turns {
+            if from >= turns || broken.load(Ordering::Relaxed) {
                 return;
             }
             let part = work(&mut state, from..turns.min(from + each));
@@ -47,6 +48,17 @@ pub fn split<S, T: Send>(
     parts.into_inner().unwrap_or_else(|broken| broken.into_inner()).into_values().collect()
 }
 
+/// Tells the other threads when one panics: the run is over then, and they need not go through the rest of it.
+struct Breaks<'a>(&'a AtomicBool);
+
+impl Drop for Breaks<'_> {
+    fn drop(&mut self) {
+        if thread::panicking() {
+            self.0.store(true, Ordering::Relaxed);
+        }
+    }
+}
+
 #[cfg(test)]
 mod tests {
     use super::*;
@@ -59,5 +71,25 @@ mod tests {
         for threads in [1, 2, 5] {
             assert_eq!(parts(threads, 1_000, 7), parts(1, 1_000, 7));
         }
+    }
+
+    #[test]
+    fn a_panic_ends_the_run() {
+        let done = AtomicU64::new(0);
+        let run = || {
+            split(
+                2,
+                1_000_000,
+                1,
+                || (),
+                |(), turns| {
+                    assert_ne!(turns.start, 10, "as it should");
+                    std::thread::sleep(std::time::Duration::from_millis(1));
+                    done.fetch_add(1, Ordering::Relaxed)
+                },
+            )
+        };
+        assert!(std::panic::catch_unwind(std::panic::AssertUnwindSafe(run)).is_err());
+        assert!(done.load(Ordering::Relaxed) < 10_000);
     }
 }

@@ -65,11 +65,15 @@ pub fn begin(seed: u64) {
     slot.call.store(0, Relaxed);
     slot.begun.store(now + 1, Relaxed);
     // The alarm of a thread that does not come to an end is put off by the others, so they look whether it is late.
-    let late = |slot: &&Slot| (1..(now + 1).saturating_sub(SECONDS.into())).contains(&slot.begun.load(Relaxed));
-    if let Some(late) = SLOT.iter().find(late) {
-        end_with(UNENDED, late);
+    if let Some(slot) = SLOT.iter().find(|slot| late(slot.begun.load(Relaxed), now)) {
+        end_with(UNENDED, slot);
     }
     unsafe { alarm(SECONDS) };
+}
+
+/// Whether calls that begun so, if there are any, are not at their end in this second although they should be.
+fn late(begun: u64, now: u64) -> bool {
+    begun != 0 && begun + u64::from(SECONDS) < now + 1
 }
 
 /// The calls on a store are made.
@@ -118,4 +122,38 @@ fn print_number(number: u64) {
         print_number(number / 10);
     }
     print(&[b'0' + (number % 10) as u8]);
+}
+
+#[cfg(test)]
+mod tests {
+    use super::*;
+    use crate::any::guard::{Access, Guarded, Side};
+    use std::process::Command;
+
+    #[test]
+    fn late_after_the_time_that_is_given() {
+        let given = u64::from(SECONDS);
+        assert!(!late(0, 1_000_000) && !late(1, 0) && !late(1, given) && late(1, given + 1) && !late(8, given + 7));
+    }
+
+    /// What the test below has run in a process of its own, since it ends it.
+    #[test]
+    #[ignore = "it ends the process"]
+    fn touches_what_is_not_lent() {
+        watch();
+        begin(41);
+        call(7);
+        let guarded = Guarded::new(10).unwrap();
+        let lent = guarded.lent(10, Side::Begin, Access::Read);
+        std::hint::black_box(unsafe { lent.as_ptr().sub(1).read_volatile() });
+    }
+
+    #[test]
+    fn a_touch_is_told_with_its_call() {
+        let this = "any::fault::tests::touches_what_is_not_lent";
+        let run = Command::new(std::env::current_exe().unwrap()).args(["--ignored", "--exact", "--nocapture", this]).output().unwrap();
+        let told = String::from_utf8_lossy(&run.stdout);
+        assert!(told.contains("A CALL TOUCHED WHAT IT WAS NOT LENT: store of seed 41, call 7"), "{told}");
+        assert_eq!(run.status.code(), Some(1));
+    }
 }
