@@ -1,11 +1,17 @@
-//! All runs, one after the other, short or at scale, and at the end one table of what they came to. A difference in one does not keep the
-//! others from being run.
+//! All runs, one after the other, short or at scale, and at the end one table of what they came to. Each is a process of its own, so that
+//! neither a difference nor the end of one, by a panic or a fault, keeps the others from being run.
 
 use crate::progress::grouped;
 use crate::report::Report;
 use crate::split::threads;
-use std::panic::{catch_unwind, AssertUnwindSafe};
+use std::io::{BufRead, BufReader};
+use std::process::{Command, Stdio};
 use std::time::Instant;
+
+/// This very program, on Linux: also where the file was built anew meanwhile.
+const PROGRAM: &str = "/proc/self/exe";
+/// The word before a command that is done for another process.
+pub const REPORTED: &str = "reported";
 
 /// How much is run.
 #[derive(Debug, Clone, Copy, PartialEq, Eq)]
@@ -74,17 +80,48 @@ fn row(command: &'static str, mut numbers: Vec<u64>, seed: u64) -> Row {
     if !numbers.is_empty() {
         numbers.push(seed);
     }
-    let words = std::iter::once(command.to_string()).chain(numbers.iter().map(u64::to_string));
-    println!("runs {}", words.collect::<Vec<_>>().join(" "));
+    let words: Vec<String> = std::iter::once(command.to_string()).chain(numbers.iter().map(u64::to_string)).collect();
+    println!("runs {}", words.join(" "));
     let start = Instant::now();
-    // A panic is a difference of that run, and not the end of the others.
-    let made = catch_unwind(AssertUnwindSafe(|| crate::command(command, &numbers)));
-    let outcome = made.unwrap_or_else(|_| Err("it panicked".to_string()));
+    let outcome = apart(&words);
     if let Err(why) = &outcome {
         println!("{why}");
     }
     println!();
     Row { run: command, size, outcome, seconds: start.elapsed().as_secs_f64() }
+}
+
+/// Has a command done in a process of its own, and prints what that prints.
+fn apart(words: &[String]) -> Result<Report, String> {
+    let failed = |why: std::io::Error| why.to_string();
+    let mut child = Command::new(PROGRAM).arg(REPORTED).args(words).stdout(Stdio::piped()).spawn().map_err(failed)?;
+    let (mut report, mut last) = (None, String::new());
+    for line in child.stdout.take().into_iter().flat_map(|out| BufReader::new(out).split(b'\n')) {
+        let line = String::from_utf8_lossy(&line.map_err(failed)?).into_owned();
+        match Report::read(&line) {
+            Some(read) => report = Some(read),
+            None => {
+                println!("{line}");
+                last = line;
+            }
+        }
+    }
+    let status = child.wait().map_err(failed)?;
+    report.ok_or_else(|| format!("{status}: {last}"))
+}
+
+/// Does a command for the process that has it done, which reads the last line.
+pub fn reported(command: &str, numbers: &[u64]) -> bool {
+    match crate::command(command, numbers) {
+        Ok(report) => {
+            println!("{}", report.written());
+            report.right()
+        }
+        Err(why) => {
+            println!("{why}");
+            false
+        }
+    }
 }
 
 /// The lines of the table.

@@ -64,6 +64,9 @@ fn run(words: &[&str]) -> Result<bool, String> {
         };
         return Ok(all::run(scale, first(&all_numbers(&numbers)?)?));
     }
+    if let (&all::REPORTED, Some((command, numbers))) = (command, words.split_first()) {
+        return Ok(all::reported(command, &all_numbers(numbers)?));
+    }
     Ok(self::command(command, &all_numbers(words)?)?.right())
 }
 

@@ -1,6 +1,10 @@
 //! What a run came to: its row in the table of all runs, and the differences with the first of them.
 
+/// What a report begins with that one process writes for another.
+const WRITTEN: &str = "REPORT";
+
 /// What a run came to.
+#[derive(Debug, Clone, PartialEq, Eq)]
 pub struct Report {
     /// What it met, in a few words.
     pub met: String,
@@ -18,6 +22,18 @@ impl Report {
     /// Whether all was as it should be.
     pub fn right(&self) -> bool {
         self.differences == 0 && self.complete
+    }
+
+    /// In one line.
+    pub fn written(&self) -> String {
+        format!("{WRITTEN} {} {} {}", self.differences, self.complete, self.met)
+    }
+
+    /// From that line; none where it is another.
+    pub fn read(line: &str) -> Option<Self> {
+        let mut words = line.strip_prefix(WRITTEN)?.strip_prefix(' ')?.splitn(3, ' ');
+        let (differences, complete) = (words.next()?.parse().ok()?, words.next()?.parse().ok()?);
+        Some(Report { met: words.next()?.to_string(), differences, complete })
     }
 }
 
@@ -52,6 +68,16 @@ impl Differences {
 #[cfg(test)]
 mod tests {
     use super::*;
+
+    #[test]
+    fn written_and_read() {
+        for (met, differences, complete) in [("", 0, true), ("accepted 7; 21: 3, and more", 12, false)] {
+            let report = Report { met: met.to_string(), differences, complete };
+            assert_eq!(Report::read(&report.written()), Some(report));
+        }
+        let others = ["", "REPORT", "REPORTS 1 true x", "REPORT x true x", "REPORT 1 so x", "REPORT 1 true", "12 differences"];
+        assert!(others.iter().all(|line| Report::read(line).is_none()));
+    }
 
     #[test]
     fn the_first_is_that_of_the_first_part() {
