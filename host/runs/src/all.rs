@@ -1,7 +1,7 @@
 //! All runs, one after the other, short or at scale, and at the end one table of what they came to. Each is a process of its own, so that
 //! neither a difference nor the end of one, by a panic or a fault, keeps the others from being run.
 
-use crate::progress::grouped;
+use crate::progress::{grouped, wipe};
 use crate::report::Report;
 use crate::split::threads;
 use std::io::{BufRead, BufReader};
@@ -101,6 +101,8 @@ fn apart(words: &[String]) -> Result<Report, String> {
         match Report::read(&line) {
             Some(read) => report = Some(read),
             None => {
+                // The other process may have gone on and written its progress.
+                wipe();
                 println!("{line}");
                 last = line;
             }

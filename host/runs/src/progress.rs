@@ -90,8 +90,15 @@ impl Progress {
 
     fn wipe(&self) {
         if self.shown.swap(false, Relaxed) {
-            let _ = write!(stderr(), "\r\x1b[K");
+            wipe();
         }
+    }
+}
+
+/// Takes away the line that this process, or one that it started, may have on the terminal.
+pub fn wipe() {
+    if stderr().is_terminal() {
+        let _ = write!(stderr(), "\r\x1b[K");
     }
 }
 
