@@ -13,7 +13,7 @@ pub(crate) const HOLE: u32 = 0;
 pub(crate) const REFERENCE: u32 = 21;
 
 /// An expression. Its parts are other expressions, by their numbers, which are below its own.
-#[derive(Debug, Clone, PartialEq)]
+#[derive(Clone, PartialEq)]
 #[allow(missing_docs, reason = "the fields are called what Nix calls them, or what the operator is")]
 pub enum Expr<'a> {
     /// What could not be parsed, was not there, or is of no use.
@@ -53,7 +53,7 @@ pub enum Expr<'a> {
 }
 
 /// A literal.
-#[derive(Debug, Clone, Copy, PartialEq)]
+#[derive(Clone, Copy, PartialEq)]
 pub enum Literal<'a> {
     /// A number with a point; never negative, and no NaN.
     Float(f64),
@@ -86,7 +86,7 @@ pub struct PatField {
 }
 
 /// A part of an interpolated text or path.
-#[derive(Debug, Clone, Copy, PartialEq, Eq)]
+#[derive(Clone, Copy, PartialEq, Eq)]
 pub enum InterpolPart<'a> {
     /// As it is written.
     Literal(&'a [u8]),

@@ -78,4 +78,32 @@ mod tests {
         assert_eq!(reply, [26, 0, 0, 0, 1, 0, 0, 0, 0, 0, 0, 0, 0, 0, 0, 0, 0, 0, 0, 0]);
         assert_eq!(buffer, [7; 3]);
     }
+
+    /// Nothing that is lent need be aligned: each slice at every distance from a multiple of eight.
+    #[test]
+    fn no_slice_need_be_aligned() {
+        fn at(bytes: &mut [u8], distance: usize, length: usize) -> &mut [u8] {
+            let to_eight = bytes.as_ptr().align_offset(8);
+            &mut bytes[to_eight + distance..][..length]
+        }
+        let lambda = include_bytes!("../../../examples/lambda.sheet");
+        let (mut sheets, mut stores) = (vec![0; lambda.len() + 16], vec![0; STORE_BYTES + 16]);
+        let (mut texts, mut buffers, mut replies) = ([0; 17], [0; 20], [0; REPLY_BYTES + 16]);
+        for distance in 0..8 {
+            let sheet = at(&mut sheets, distance, lambda.len());
+            sheet.copy_from_slice(lambda);
+            let text = at(&mut texts, 7 - distance, 1);
+            text.copy_from_slice(b"y");
+            let store = at(&mut stores, (distance + 1) % 8, STORE_BYTES);
+            let (buffer, reply) = (at(&mut buffers, (distance + 2) % 8, 4), at(&mut replies, (distance + 3) % 8, REPLY_BYTES));
+            assert_eq!(load(sheet, store, reply), 0);
+            assert_eq!(ask_reference(store, 0, buffer, reply), 0);
+            assert_eq!(reply, [0, 0, 0, 0, 0, 0, 0, 0, 1, 0, 0, 0, 0, 0, 0, 0, 0, 0, 0, 0]);
+            assert_eq!(change_name(store, 0, text, reply), 0);
+            assert_eq!(change_reference(store, 0, text, reply), 0);
+            buffer.fill(7);
+            assert_eq!(ask_name(store, 0, buffer, reply), 0);
+            assert_eq!((&buffer[..], &reply[16..]), (&[0; 4][..], &[1, 0, 0, 0][..]));
+        }
+    }
 }

@@ -33,7 +33,8 @@ macro_rules! number {
 }
 
 number! {
-    /// The number of an expression, shown as `e0`.
+    /// The number of an expression, shown as `e0`. It is not the number of its node in the sheet; see
+    /// [`Store::expr_at`](crate::Store::expr_at).
     ///
     /// ```
     /// assert_eq!(lang_ast::ExprId(3).to_string(), "e3");
@@ -41,7 +42,8 @@ number! {
     ExprId, "e"
 }
 number! {
-    /// The number of a name, shown as `n0`.
+    /// The number of a name, shown as `n0`. It is not the number of its node in the sheet; see
+    /// [`Store::name_at`](crate::Store::name_at).
     ///
     /// ```
     /// assert_eq!(lang_ast::NameId(3).to_string(), "n3");

@@ -15,7 +15,7 @@ pub(crate) const TEXTS: usize = 3_162_240;
 /// How many bytes the texts of all changes since a load may have.
 pub const CHANGE_ROOM: u32 = 8_192;
 
-/// The most bytes of a new text.
+/// The most bytes of a new text. One in a sheet may be longer.
 pub const TEXT_LIMIT: usize = 255;
 
 /// Offsets of the header's words.
@@ -69,6 +69,9 @@ pub(crate) fn words(bytes: &[u8]) -> impl Iterator<Item = u32> + '_ {
 #[cfg(test)]
 mod tests {
     use super::*;
+    use crate::expr::{HOLE, REFERENCE};
+    use crate::refusal::Refusal;
+    use std::collections::BTreeMap;
 
     /// Each table ends where the page lets the next one begin.
     #[test]
@@ -95,5 +98,68 @@ mod tests {
         assert_eq!(word(&[1, 2, 0, 0, 9], 0), Some(513));
         assert_eq!(word(&[1, 2, 0, 0, 9], 2), None);
         assert_eq!(word(&[], usize::MAX), None);
+    }
+
+    /// The macros that the header for C defines, by what follows `LANG_AST_`.
+    fn header_for_c() -> BTreeMap<String, usize> {
+        let mut defined = BTreeMap::new();
+        for line in include_str!("../include/lang_ast.h").lines().filter_map(|line| line.strip_prefix("#define LANG_AST_")) {
+            // The guard of the header has no value.
+            if let [name, value, ..] = line.split(' ').collect::<Vec<_>>()[..] {
+                let value = value.parse().unwrap_or_else(|_| panic!("{name} is {value}"));
+                assert_eq!(defined.insert(name.to_string(), value), None, "{name} is defined twice");
+            }
+        }
+        defined
+    }
+
+    /// `KidCount` as C writes it: `KID_COUNT`.
+    fn in_c(name: &str) -> String {
+        let words = name.char_indices().flat_map(|(i, c)| [(i > 0 && c.is_uppercase()).then_some('_'), Some(c.to_ascii_uppercase())]);
+        words.flatten().collect()
+    }
+
+    /// Every number of the header for C is the library's.
+    #[test]
+    fn the_header_has_the_librarys_numbers() {
+        let mut wanted: BTreeMap<String, usize> = [
+            ("STORE_BYTES", STORE_BYTES),
+            ("REPLY_BYTES", REPLY_BYTES),
+            ("BUFFER_BYTES", KEPT.row * KEPT.limit as usize),
+            ("TEXT_LIMIT", TEXT_LIMIT),
+            ("CHANGE_ROOM", CHANGE_ROOM as usize),
+            ("EXPR_COUNT", header::EXPRS),
+            ("NAME_COUNT", header::NAMES),
+            ("EXPRS", EXPRS.at),
+            ("EXPR_BYTES", EXPRS.row),
+            ("EXPR_SORT", 4),
+            ("SORT_NO_NODE", HOLE as usize),
+            ("SORT_REFERENCE", REFERENCE as usize),
+            ("EXPR_POINTERS", EXPR_POINTERS.at),
+            ("NAME_POINTERS", NAME_POINTERS.at),
+            ("POINTER_BYTES", EXPR_POINTERS.row),
+            ("POINTER_KIND", 0),
+            ("POINTER_FROM", 4),
+            ("POINTER_TO", 8),
+            // The reply and its answers, as src/store.rs reads them.
+            ("REPLY_REFUSAL", 0),
+            ("REPLY_PLACE", 4),
+            ("REPLY_ANSWER", 8),
+            ("REPLY_TO", 12),
+            ("REPLY_LENGTH", 16),
+            ("ANSWER_NONE", 0),
+            ("ANSWER_DEFINITION", 1),
+            ("ANSWER_BUILTIN", 2),
+            ("ANSWER_WITHS", 3),
+        ]
+        .map(|(name, number)| (name.to_string(), number))
+        .into();
+        for number in 0..100 {
+            if let Some(reason) = (Refusal { number, place: 0 }).reason() {
+                wanted.insert(in_c(&format!("{reason:?}")), number as usize);
+            }
+        }
+        assert_eq!(NAME_POINTERS.row, EXPR_POINTERS.row);
+        assert_eq!(header_for_c(), wanted);
     }
 }

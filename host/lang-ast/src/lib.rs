@@ -12,6 +12,7 @@ mod page;
 mod read;
 mod refusal;
 mod sheet;
+mod shown;
 mod store;
 
 pub use answer::{Answer, Builtin};

@@ -10,14 +10,20 @@ pub(crate) struct Page<'a> {
     bytes: &'a [u8],
 }
 
-/// Where in a source text a node lies, and of which kind it is: what the sheet said of it. Nodes with the same three have the same pointer.
+/// Where in a source text a node lies, and of which kind it is: what the sheet said of it. Nodes with the same three
+/// have the same pointer.
+///
+/// The unit of places is your own; byte offsets are usual, the end not included. Places are compared and given back,
+/// and nothing else is done with them. A change of text does not move them: they are those of the text that was loaded.
+///
+/// [`Kind::pointer`](crate::Kind::pointer) makes one.
 #[derive(Debug, Clone, Copy, PartialEq, Eq, PartialOrd, Ord, Hash)]
 pub struct Pointer {
     /// The number of the node's kind, see [`Kind::number`](crate::Kind::number).
     pub kind: u32,
     /// Where it begins.
     pub from: u32,
-    /// Where it ends.
+    /// Where it ends; the end is not included.
     pub to: u32,
 }
 
@@ -25,6 +31,17 @@ impl Pointer {
     /// The pointer of a node of this kind from here to there.
     pub const fn new(kind: u32, from: u32, to: u32) -> Self {
         Pointer { kind, from, to }
+    }
+
+    /// Whether a place lies in it: at its beginning or behind, and before its end.
+    ///
+    /// ```
+    /// use lang_ast::Kind;
+    /// let x = Kind::ident("x").pointer(3, 5);
+    /// assert_eq!([2, 3, 4, 5].map(|offset| x.holds(offset)), [false, true, true, false]);
+    /// ```
+    pub const fn holds(self, offset: u32) -> bool {
+        self.from <= offset && offset < self.to
     }
 }
 

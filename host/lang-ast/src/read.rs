@@ -11,7 +11,7 @@ use crate::page::{below, one_less, Page, Pointer};
 use crate::store::Store;
 
 /// A name: something that is defined, or an attribute of a set.
-#[derive(Debug, Clone, Copy, PartialEq, Eq, Hash)]
+#[derive(Clone, Copy, PartialEq, Eq, Hash)]
 pub struct Name<'a> {
     /// How it is written now.
     pub text: &'a [u8],
@@ -55,7 +55,7 @@ impl NameKind {
 }
 
 /// A key that a set or a let has twice.
-#[derive(Debug, Clone, Copy, PartialEq, Eq, Hash)]
+#[derive(Clone, Copy, PartialEq, Eq, Hash)]
 pub struct DuplicateKey<'a> {
     /// The key as loaded.
     pub key: &'a [u8],
@@ -81,6 +81,12 @@ pub enum ScopeKind {
     Definitions(Vec<NameId>),
     /// The attributes of this With's namespace.
     WithExpr(ExprId),
+}
+
+/// The one whose pointer is the shortest that holds the offset; of equally short ones the last.
+fn innermost<Id>(offset: u32, pointers: impl DoubleEndedIterator<Item = (Id, Pointer)>) -> Option<Id> {
+    let around = pointers.rev().filter(|(_, pointer)| pointer.holds(offset));
+    around.min_by_key(|(_, pointer)| pointer.to - pointer.from).map(|(id, _)| id)
 }
 
 impl Store {
@@ -164,17 +170,46 @@ impl Store {
         self.page().pointer(layout::EXPR_POINTERS, expr.0, 0)
     }
 
-    /// The expression of a node. Of several with the same pointer it is the last, as the Rust's map keeps the last writer.
+    /// The expression of a node. Of several with the same pointer it is the one with the highest number: the last that
+    /// was written into the map of the original Rust, the crate lang_ast of JRMurr/tix, whose results these are.
+    ///
+    /// Not every node has an expression, and not every Ident is a use:
+    ///
+    /// - A Root and a Paren have no expression of their own: look for what is inside.
+    /// - The Idents of a Select's path are Strings ([`Literal::String`](crate::Literal::String)), and so are those of a
+    ///   HasAttr's.
+    /// - The Ident of a key has a name ([`Store::name_at`]), and a set too where its path goes on: the `a` of
+    ///   `{ a.b = 1; }`. In `{ a.b = 1; a.c = 2; }` the first `a` has both, and the second has neither.
+    /// - The Ident of a plain `inherit` has a name and a Reference; that of an `inherit (source)` a name and a Select.
+    ///
+    /// So an Ident is a use only if [`Store::reference_text`] of its expression is `Some`. Where only a place in the
+    /// text is known, [`Store::reference_at`] finds the use. docs/STORE.md has a table of all this under Pointers.
     ///
     /// ```
     /// # let store = lang_ast::Store::load(&std::fs::read("../../examples/lambda.sheet")?)?;
-    /// use lang_ast::{ExprId, Kind, Pointer};
-    /// let body = Pointer::new(Kind::ident("x").number(), 3, 4);
-    /// assert_eq!(store.expr_at(body), Some(ExprId(0)));
+    /// use lang_ast::{ExprId, Kind};
+    /// // The body of `x: x`, and its parameter, which has a name and no expression.
+    /// assert_eq!(store.expr_at(Kind::ident("x").pointer(3, 4)), Some(ExprId(0)));
+    /// assert_eq!(store.expr_at(Kind::ident("x").pointer(0, 1)), None);
     /// # Ok::<(), Box<dyn std::error::Error>>(())
     /// ```
     pub fn expr_at(&self, pointer: Pointer) -> Option<ExprId> {
         self.exprs().rev().find(|&expr| self.expr_pointer(expr) == Some(pointer))
+    }
+
+    /// The use at a place of the source text, such as a cursor's: the innermost Reference whose node holds the place,
+    /// which then lies at the node's beginning or behind it, and before its end. Innermost is the shortest; of equally
+    /// short ones it is the one with the highest number.
+    ///
+    /// ```
+    /// # let store = lang_ast::Store::load(&std::fs::read("../../examples/lambda.sheet")?)?;
+    /// use lang_ast::ExprId;
+    /// // `x: x`, in which the second x is a use and the first is none.
+    /// assert_eq!([0, 3, 4].map(|offset| store.reference_at(offset)), [None, Some(ExprId(0)), None]);
+    /// # Ok::<(), Box<dyn std::error::Error>>(())
+    /// ```
+    pub fn reference_at(&self, offset: u32) -> Option<ExprId> {
+        innermost(offset, self.references().filter_map(|(expr, _)| Some((expr, self.expr_pointer(expr)?))))
     }
 
     /// A name.
@@ -189,20 +224,37 @@ impl Store {
         self.page().pointer(layout::NAME_POINTERS, name.0, 0)
     }
 
-    /// The name of a node. Of several with the same pointer it is the last, as the Rust's map keeps the last writer.
+    /// The name of a node. Of several with the same pointer it is the one with the highest number, as in
+    /// [`Store::expr_at`].
+    ///
+    /// A name has the pointer of the Ident of a parameter, of a pattern's `x@` or of its field; or, in a set or a let,
+    /// of the attribute that first brings its key: an Ident, a Str or a Dynamic.
     ///
     /// ```
     /// # let store = lang_ast::Store::load(&std::fs::read("../../examples/lambda.sheet")?)?;
-    /// use lang_ast::{Kind, NameId, Pointer};
-    /// let parameter = Pointer::new(Kind::ident("x").number(), 0, 1);
-    /// assert_eq!(store.name_at(parameter), Some(NameId(0)));
+    /// use lang_ast::{Kind, NameId};
+    /// assert_eq!(store.name_at(Kind::ident("x").pointer(0, 1)), Some(NameId(0)));
     /// # Ok::<(), Box<dyn std::error::Error>>(())
     /// ```
     pub fn name_at(&self, pointer: Pointer) -> Option<NameId> {
         self.names().rev().find(|&name| self.name_pointer(name) == Some(pointer))
     }
 
-    /// The keys that a set or a let has twice.
+    /// The name that is defined at a place of the source text, such as a cursor's: the innermost name whose node holds
+    /// the place, as [`Store::reference_at`] has it for a use. In a plain `inherit` there are both.
+    ///
+    /// ```
+    /// # let store = lang_ast::Store::load(&std::fs::read("../../examples/lambda.sheet")?)?;
+    /// use lang_ast::NameId;
+    /// // `x: x`
+    /// assert_eq!([0, 1, 3].map(|offset| store.name_around(offset)), [Some(NameId(0)), None, None]);
+    /// # Ok::<(), Box<dyn std::error::Error>>(())
+    /// ```
+    pub fn name_around(&self, offset: u32) -> Option<NameId> {
+        innermost(offset, self.names().filter_map(|name| Some((name, self.name_pointer(name)?))))
+    }
+
+    /// The keys that a set or a let has twice, as loaded: a change of text leaves them.
     pub fn diagnostics(&self) -> impl DoubleEndedIterator<Item = DuplicateKey<'_>> {
         let page = self.page();
         (0..page.count(header::DIAGNOSTICS, layout::DIAGNOSTICS)).filter_map(move |row| {

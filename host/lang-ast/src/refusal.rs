@@ -5,13 +5,20 @@ use std::fmt;
 
 /// A refusal: its number, and the place that goes with the number. What was refused has changed nothing.
 ///
+/// Its text says it in a sentence, and so does its [`Debug`](fmt::Debug), which a `main` that returns it shows.
+///
 /// ```
 /// use lang_ast::{Reason, Refusal, Store};
 /// let refusal = Store::load(b"nodes=0\n").err();
 /// assert_eq!(refusal, Some(Refusal { number: 3, place: 0 }));
 /// assert_eq!(refusal.and_then(|refusal| refusal.reason()), Some(Reason::Value));
+///
+/// let refusal = Refusal { number: 25, place: 3 };
+/// assert_eq!(refusal.to_string(), "refused (25): expression 3 is no Reference");
+/// let shown = r#"Refusal { number: 25, place: 3, says: "refused (25): expression 3 is no Reference" }"#;
+/// assert_eq!(format!("{refusal:?}"), shown);
 /// ```
-#[derive(Debug, Clone, Copy, PartialEq, Eq, Hash, PartialOrd, Ord)]
+#[derive(Clone, Copy, PartialEq, Eq, Hash, PartialOrd, Ord)]
 pub struct Refusal {
     /// Which refusal it is: 1 to 7 are of the sheet, 8 and 21 to 27 of the other calls.
     pub number: u32,
@@ -25,7 +32,9 @@ pub struct Refusal {
 pub enum Reason {
     /// 1: the sheet has more than 1,048,576 bytes.
     SheetTooLong,
-    /// 2: a line of the sheet is without its key, form or end, or bytes follow the last line. The place is the line's first byte.
+    /// 2: a line of the sheet is missing, or is without its key, its form or the newline at its end, or bytes follow
+    /// the last line. The place is the first byte of the line or of those bytes; the sheet's length where a line is
+    /// missing.
     Form,
     /// 3: a value on a line of the sheet is out of its range or against its kind's rule. The place is the line's first byte.
     Value,
@@ -96,29 +105,47 @@ impl Refusal {
 
 impl fmt::Display for Refusal {
     fn fmt(&self, f: &mut fmt::Formatter<'_>) -> fmt::Result {
-        let place = self.place;
+        let Refusal { number, place } = *self;
+        write!(f, "refused ({number}): ")?;
         let Some(reason) = self.reason() else {
-            return write!(f, "the archive answered {}, which this library doesn't know: are they of one version?", self.number);
+            return f.write_str("this library doesn't know the number: are it and the archive of one version?");
         };
         match reason {
             Reason::SheetTooLong => write!(f, "the sheet has more than 1,048,576 bytes"),
-            Reason::Form => write!(f, "the sheet's line at byte {place} is not written as it should be, or should not be there"),
+            Reason::Form => {
+                let wrong = "is missing, or is without its key, its form or the newline at its end, or bytes follow the last line";
+                write!(f, "at byte {place} of the sheet a line {wrong}")
+            }
             Reason::Value => {
-                write!(f, "the sheet's line at byte {place} has a value that is out of its range or that its node may not have")
+                write!(f, "at byte {place} of the sheet a line has a value that is out of its range or that its node may not have")
             }
             Reason::KidCount => write!(f, "node {place} of the sheet has too few or too many kids"),
-            Reason::WrongKid => write!(f, "node {place} of the sheet has a kid that is out of order, of the wrong kind or wrongly absent"),
+            Reason::WrongKid => {
+                let wrong = "is not the next node, or is of a kind that its place does not take, or is absent in a list";
+                write!(f, "node {place} of the sheet has a kid that {wrong}")
+            }
             Reason::TooDeep => write!(f, "node {place} of the sheet has a kid deeper than 256 levels"),
             Reason::NotMet => write!(f, "node {place} of the sheet is no part of its tree"),
             Reason::TextTooLong => write!(f, "the new text has more than {place} bytes"),
             Reason::StoreTooShort => write!(f, "the store has fewer bytes than a store needs"),
             Reason::StoreUnsound => write!(f, "the store's bytes are damaged or of no store"),
             Reason::NothingLoaded => write!(f, "nothing is loaded"),
-            Reason::NoSuchNumber => write!(f, "nothing has the number {place}"),
+            Reason::NoSuchNumber => write!(f, "no expression or name has the number {place}"),
             Reason::NotAReference => write!(f, "expression {place} is no Reference"),
             Reason::BufferTooShort => write!(f, "the list has {place} numbers, for which the buffer is too short"),
-            Reason::RoomSpent => write!(f, "the texts of all changes since the load would have more than 8,192 bytes: load again"),
+            Reason::RoomSpent => {
+                let then = "reload a sheet of the changed text";
+                write!(f, "the texts of all changes since the load would have more than 8,192 bytes: {then}")
+            }
         }
+    }
+}
+
+/// With the sentence, since `fn main() -> Result<..>` and `expect` show an error by this.
+impl fmt::Debug for Refusal {
+    fn fmt(&self, f: &mut fmt::Formatter<'_>) -> fmt::Result {
+        let Refusal { number, place } = self;
+        f.debug_struct("Refusal").field("number", number).field("place", place).field("says", &self.to_string()).finish()
     }
 }
 
@@ -137,6 +164,26 @@ mod tests {
         sentences.dedup();
         assert_eq!(sentences.len(), numbers.len());
         assert!(Refusal::UNKNOWN.to_string().contains("of one version"));
+        for number in 0..100 {
+            let refusal = Refusal { number, place: 9 };
+            assert!(refusal.to_string().starts_with(&format!("refused ({number}): ")), "{refusal}");
+            assert_eq!(format!("{refusal:?}"), format!("Refusal {{ number: {number}, place: 9, says: {:?} }}", refusal.to_string()));
+        }
+    }
+
+    #[test]
+    fn sentences_name_their_places() {
+        let said = |number| Refusal { number, place: 305 }.to_string();
+        let form = "refused (2): at byte 305 of the sheet a line is missing, or is without its key, its form or the newline at its end, \
+            or bytes follow the last line";
+        assert_eq!(said(2), form);
+        let kid = "refused (5): node 305 of the sheet has a kid that is not the next node, or is of a kind that its place does not take, \
+            or is absent in a list";
+        assert_eq!(said(5), kid);
+        assert_eq!(said(24), "refused (24): no expression or name has the number 305");
+        let spent = "refused (27): the texts of all changes since the load would have more than 8,192 bytes: \
+            reload a sheet of the changed text";
+        assert_eq!(said(27), spent);
     }
 
     #[test]

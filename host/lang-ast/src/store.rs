@@ -174,18 +174,59 @@ impl Store {
 
     /// Sets the text of a Reference, and with it what it means. All answers and references are then those of the file with the new text.
     ///
-    /// Refused with 24 and 25 as [`Store::ask_reference`] is, with 8 for a text of more than [`TEXT_LIMIT`](crate::TEXT_LIMIT) bytes, and
-    /// with 27 if it has more bytes than [`Store::room_left`] says. A refusal leaves the store as it was.
+    /// Refused with 24 and 25 as [`Store::ask_reference`] is, with 8 for a text of more than
+    /// [`TEXT_LIMIT`](crate::TEXT_LIMIT) bytes, and with 27 if it is another than the old one and has more bytes than
+    /// [`Store::room_left`] says. A refusal leaves the store as it was.
     pub fn change_reference(&mut self, expr: ExprId, text: &[u8]) -> Result<(), Refusal> {
         let mut reply = [0; REPLY_BYTES];
         outcome(ffi::change_reference(&mut self.bytes, expr.0, text, &mut reply), &reply)
     }
 
-    /// Sets the text of a name, and nothing else: the References that meant it keep their texts, so to rename both they are changed too.
-    /// All answers and references are then those of the file with the new text.
+    /// Sets the text of a name, and nothing else: the References that meant it keep their texts. All answers and
+    /// references are then those of the file with the new text.
     ///
-    /// Refused with 24 where there is no such name, with 8 for a text of more than [`TEXT_LIMIT`](crate::TEXT_LIMIT) bytes, and with 27 if
-    /// it has more bytes than [`Store::room_left`] says. A refusal leaves the store as it was.
+    /// Refused with 24 where there is no such name, with 8 for a text of more than [`TEXT_LIMIT`](crate::TEXT_LIMIT)
+    /// bytes, and with 27 if it is another than the old one and has more bytes than [`Store::room_left`] says. A
+    /// refusal leaves the store as it was.
+    ///
+    /// # To rename
+    ///
+    /// Take the uses first ([`Store::ask_name`]), since afterwards they mean something else or nothing. Then change the
+    /// name and each use, and ask again: the rename is safe if every name's uses are what they were. Then every
+    /// Reference means what it meant.
+    ///
+    /// ```
+    /// use lang_ast::{Kind, Store};
+    /// // `x: y: x`, in which the x is to be called something else.
+    /// let mut store = Store::load(&std::fs::read("../../examples/line-d-rename-and-back.sheet")?)?;
+    /// let name = store.name_at(Kind::ident("x").pointer(0, 1)).ok_or("no name there")?;
+    ///
+    /// let mut rename = |text: &[u8]| -> Result<bool, lang_ast::Refusal> {
+    ///     let mut renamed = store.clone();
+    ///     renamed.change_name(name, text)?;
+    ///     for used in store.ask_name(name)? {
+    ///         renamed.change_reference(used, text)?;
+    ///     }
+    ///     // What `ask_name` says, without a check of the whole store for each name.
+    ///     let safe = store.names().all(|name| store.kept_references(name) == renamed.kept_references(name));
+    ///     if safe {
+    ///         store = renamed;
+    ///     }
+    ///     Ok(safe)
+    /// };
+    /// assert!(!rename(b"y")?, "the inner y would take the use");
+    /// assert!(rename(b"z")?);
+    /// # Ok::<(), Box<dyn std::error::Error>>(())
+    /// ```
+    ///
+    /// - A text is not checked to be one that Nix takes as a name.
+    /// - Each change spends its own bytes, so a rename may be refused with 27 halfway: see [`Store::room_left`], or
+    ///   work on a clone as here.
+    /// - What is no Reference is no use: the `x` of `set.x`, and an argument `{ x = 1; }` for a field `x` of a pattern.
+    /// - Whether a key is then in its set twice is not looked at: [`Store::diagnostics`] are those of the load.
+    /// - The Ident of `inherit x;` is a name and a Reference, that of `inherit (source) x;` a name and what is
+    ///   selected. Where only one of the two is renamed no `inherit` says it any more: `x = y;`, `y = x;` or
+    ///   `y = source.x;` does.
     pub fn change_name(&mut self, name: NameId, text: &[u8]) -> Result<(), Refusal> {
         let mut reply = [0; REPLY_BYTES];
         outcome(ffi::change_name(&mut self.bytes, name.0, text, &mut reply), &reply)

@@ -20,6 +20,8 @@ fn read_all(store: &Store) -> usize {
     read += store.references().count() + store.diagnostics().count() + store.lost().count();
     read += usize::from(store.entry().is_some()) + (store.room_spent() + store.room_left()) as usize;
     read += format!("{store:?}").len();
+    read += store.names().take(50).map(|name| format!("{:?}", store.name(name)).len()).sum::<usize>();
+    read += store.exprs().take(50).map(|expr| format!("{:?}", store.expr(expr)).len()).sum::<usize>();
     for number in numbers(store) {
         read += read_number(store, number);
     }
@@ -34,6 +36,8 @@ fn read_number(store: &Store, number: u32) -> usize {
         store.reference_text(expr).is_some(),
         store.expr_at(pointer).is_some(),
         store.name_at(pointer).is_some(),
+        store.reference_at(pointer.from).is_some(),
+        store.name_around(pointer.from).is_some(),
         store.scope(scope).is_some(),
         store.scope_of(expr).is_some(),
         store.scope_holding(name).is_some(),

@@ -1,4 +1,5 @@
 //! The header and the archive for a host in C: tests/c/follow.c, compiled and run. Skipped where there is no C compiler.
+//! That the header's numbers are the library's is tested in src/layout.rs.
 
 use std::path::{Path, PathBuf};
 use std::process::Command;
@@ -9,17 +10,20 @@ nothing lent: 21 21 21 21 21
 load no sheet: refusal 2, place 0, answer 0, to 0, length 0
 ask too early: refusal 23, place 0, answer 0, to 0, length 0
 load: refusal 0, place 0, answer 0, to 0, length 0
-ask e0: refusal 0, place 0, answer 1, to 0, length 0
-ask n0: refusal 0, place 0, answer 0, to 0, length 1
+the body is e0 of 2
+follow: refusal 0, place 0, answer 1, to 0, length 0
+n0 of 1 is at 0 to 1
+ask the use: refusal 0, place 0, answer 1, to 0, length 0
+ask the name: refusal 0, place 0, answer 0, to 0, length 1
 first use: e0
-name n0 y: refusal 0, place 0, answer 0, to 0, length 0
-ask e0: refusal 0, place 0, answer 0, to 0, length 0
-ask n0: refusal 0, place 0, answer 0, to 0, length 0
-name e0 y: refusal 0, place 0, answer 0, to 0, length 0
-ask e0: refusal 0, place 0, answer 1, to 0, length 0
-ask n0: refusal 0, place 0, answer 0, to 0, length 1
+name it y: refusal 0, place 0, answer 0, to 0, length 0
+ask the use: refusal 0, place 0, answer 0, to 0, length 0
+ask the name: refusal 0, place 0, answer 0, to 0, length 0
+use y: refusal 0, place 0, answer 0, to 0, length 0
+ask the use: refusal 0, place 0, answer 1, to 0, length 0
+ask the name: refusal 0, place 0, answer 0, to 0, length 1
 ask without a buffer: refusal 26, place 1, answer 0, to 0, length 0
-name n0 no text: refusal 0, place 0, answer 0, to 0, length 0
+name it nothing: refusal 0, place 0, answer 0, to 0, length 0
 ";
 
 fn run(command: &mut Command) -> String {
@@ -45,22 +49,10 @@ fn a_host_in_c_follows_a_name() {
     let program: PathBuf = Path::new(env!("CARGO_TARGET_TMPDIR")).join("follow");
     let mut compile = Command::new(compiler);
     compile.args(["-std=c99", "-Wall", "-Wextra", "-Werror", "-pedantic", "-I"]).arg(crate_folder.join("include"));
-    compile.arg(crate_folder.join("tests/c/follow.c")).arg(env!("LANG_AST_ARCHIVE_FILE")).arg("-o").arg(&program);
+    // As the header says it: the library behind the sources, by its folder.
+    let folder = Path::new(env!("LANG_AST_ARCHIVE_FILE")).parent().expect("the archive lies in a folder");
+    compile.arg(crate_folder.join("tests/c/follow.c")).arg("-L").arg(folder).arg("-llang_ast").arg("-o").arg(&program);
     run(&mut compile);
     let followed = run(Command::new(&program).arg(crate_folder.join("../../examples/lambda.sheet")));
     assert_eq!(followed, FOLLOWED);
-}
-
-/// The numbers that the header repeats are the library's.
-#[test]
-fn the_header_has_the_librarys_numbers() {
-    let header = include_str!("../include/lang_ast.h");
-    let defined = |name: &str| -> Option<usize> {
-        let mut lines = header.lines().filter_map(|line| line.strip_prefix("#define LANG_AST_"));
-        lines.find_map(|line| line.strip_prefix(name)?.strip_prefix(' ')?.split(' ').next()?.parse().ok())
-    };
-    assert_eq!(defined("STORE_BYTES"), Some(lang_ast::STORE_BYTES));
-    assert_eq!(defined("TEXT_LIMIT"), Some(lang_ast::TEXT_LIMIT));
-    assert_eq!(defined("CHANGE_ROOM"), Some(lang_ast::CHANGE_ROOM as usize));
-    assert_eq!(defined("REPLY_BYTES"), Some(20));
 }

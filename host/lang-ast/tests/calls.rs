@@ -3,6 +3,7 @@
 mod common;
 
 use common::{sheet, store};
+use generate::{Preset, Rng};
 use lang_ast::{Answer, Builtin, ExprId, NameId, Reason, Refusal, Store, CHANGE_ROOM, STORE_BYTES, TEXT_LIMIT};
 
 /// `x: x`
@@ -188,4 +189,95 @@ fn stores_go_from_thread_to_thread() {
     let store = std::thread::spawn(move || Store::load(&deep)).join().expect("no panic").expect("a sheet");
     assert_eq!(store.expr_count(), 1);
     assert!(format!("{store:?}").len() < 100);
+}
+
+/// What all names' uses are, and what all References mean.
+fn meanings(store: &Store) -> (Vec<Option<Vec<ExprId>>>, Vec<Option<Answer>>) {
+    let uses = store.names().map(|name| store.kept_references(name)).collect();
+    (uses, store.exprs().map(|expr| store.kept_answer(expr)).collect())
+}
+
+/// The doc of `change_name`: a rename after which every name's uses are what they were left every meaning as it was.
+#[test]
+fn a_rename_that_leaves_the_uses_leaves_all_meanings() {
+    let rng = &mut Rng::new(8);
+    let (mut safe, mut unsafe_ones) = (0, 0);
+    for seed in 0..400 {
+        let before =
+            Store::load(&sheet::write(&[Preset::Tiny, Preset::Small, Preset::Keys][seed as usize % 3].sheet(seed))).expect("a sheet");
+        let mut texts: Vec<Vec<u8>> = before.references().map(|(_, text)| text.to_vec()).collect();
+        texts.extend(before.names().filter_map(|name| Some(before.name(name)?.text.to_vec())));
+        texts.extend([b"map".to_vec(), b"nobodys".to_vec()]);
+        for name in before.names().take(12) {
+            let (text, mut after) = (rng.pick(&texts), before.clone());
+            after.change_name(name, &text).expect("there is room");
+            for used in before.ask_name(name).expect("a name") {
+                after.change_reference(used, &text).expect("there is room");
+            }
+            let ((old_uses, old_answers), (uses, answers)) = (meanings(&before), meanings(&after));
+            assert_eq!(old_uses == uses, old_answers == answers, "seed {seed}, {name}");
+            *(if old_uses == uses { &mut safe } else { &mut unsafe_ones }) += 1;
+        }
+    }
+    assert!(safe > 300 && unsafe_ones > 50, "{safe} safe, {unsafe_ones} not");
+}
+
+/// What the doc of `change_name` says that a rename does not look at: a key that its let then has twice.
+#[test]
+fn a_rename_does_not_look_for_keys_that_are_there() {
+    let of = |key: &str| format!(r#"21(12(-,25(23(18"{key}"),9"1"),25(23(18"y"),9"2")))"#);
+    let mut renamed = store(&of("x"));
+    let x = renamed.names().find(|&name| renamed.name(name).is_some_and(|name| name.text == b"x")).expect("x is there");
+    let before = meanings(&renamed);
+    renamed.change_name(x, b"y").expect("there is room");
+    assert_eq!((meanings(&renamed), renamed.diagnostics().count()), (before, 0));
+    assert_eq!(store(&of("y")).diagnostics().count(), 1);
+}
+
+#[test]
+fn one_store_is_asked_by_several_threads() {
+    let items = vec![r#"18"x""#; 1_000].join(",");
+    let store = store(&format!(r#"21(11(28(18"x"),13({items})))"#));
+    let uses: Vec<ExprId> = store.references().map(|(expr, _)| expr).collect();
+    std::thread::scope(|scope| {
+        for first in 0..4 {
+            let (store, uses) = (&store, &uses);
+            scope.spawn(move || {
+                for &used in uses.iter().skip(first).step_by(50) {
+                    assert_eq!(store.ask_reference(used), Ok(Answer::Definition(NameId(0))));
+                    assert_eq!(store.ask_name(NameId(0)).as_ref(), Ok(uses));
+                }
+            });
+        }
+    });
+}
+
+/// A long text comes with a sheet, and a new one is refused.
+#[test]
+fn a_text_of_a_sheet_may_be_longer_than_a_new_one() {
+    let long = "y".repeat(TEXT_LIMIT + 1);
+    let mut store = store(&format!(r#"21(11(28(18"{long}"),18"{long}"))"#));
+    assert_eq!(store.ask_name(NameId(0)), Ok(vec![ExprId(0)]));
+    assert_eq!(store.name(NameId(0)).map(|name| name.text), Some(long.as_bytes()));
+    assert_eq!(refused(store.change_name(NameId(0), &[b'z'; TEXT_LIMIT + 1])), (8, 255));
+}
+
+/// docs/SHEET.md: the newlines before the place of a refusal 2 or 3, and one, are the number of its line.
+#[test]
+fn the_place_of_a_refusal_gives_its_line() {
+    let line = |bytes: &[u8]| {
+        let (number, place) = load(bytes);
+        assert!(matches!(number, 2 | 3), "refused with {number}");
+        bytes[..place as usize].iter().filter(|&&byte| byte == b'\n').count() + 1
+    };
+    let whole = sheet(IDENTITY);
+    let lines: Vec<&[u8]> = whole.split_inclusive(|&byte| byte == b'\n').collect();
+    for wrong in 0..lines.len() {
+        let with = |text: &[u8]| [&lines[..wrong].concat(), text, &lines[wrong + 1..].concat()].concat();
+        assert_eq!(line(&with(b"none\n")), wrong + 1);
+        assert_eq!(line(&lines[..wrong].concat()), wrong + 1);
+        let key = lines[wrong].split_inclusive(|&byte| byte == b'=').next().expect("a key");
+        assert_eq!(line(&with(&[key, b"99999999999\n"].concat())), wrong + 1);
+    }
+    assert_eq!(line(&[&whole, &b"more"[..]].concat()), lines.len() + 1);
 }

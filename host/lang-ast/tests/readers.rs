@@ -238,3 +238,143 @@ fn marked_examples() {
     assert_eq!(twice.lost().count(), 1);
     assert_eq!(store(&format!("21(16({plain},{path}))")).diagnostics().count(), 0);
 }
+
+/// A tree whose nodes are looked up by their numbers in the sheet.
+struct Tree {
+    nodes: Vec<Node>,
+    store: Store,
+}
+
+impl Tree {
+    fn new(notation: &str) -> Self {
+        Tree { nodes: common::nodes(notation), store: store(notation) }
+    }
+
+    fn pointer(&self, node: usize) -> Pointer {
+        let Node { kind, from, to, .. } = self.nodes[node];
+        Pointer::new(u32::from(kind), from, to)
+    }
+
+    fn expr(&self, node: usize) -> Option<Expr<'_>> {
+        self.store.expr(self.store.expr_at(self.pointer(node))?)
+    }
+
+    fn name(&self, node: usize) -> Option<&[u8]> {
+        Some(self.store.name(self.store.name_at(self.pointer(node))?)?.text)
+    }
+}
+
+/// What [`Store::expr_at`] and docs/STORE.md under Pointers say of nodes, of attributes above all.
+#[test]
+fn which_nodes_have_an_expression_or_a_name() {
+    let string = |text| Some(Expr::Literal(Literal::String(text)));
+    let is_set = |expr: Option<Expr>| matches!(expr, Some(Expr::AttrSet { .. }));
+    // (x)
+    let paren = Tree::new(r#"21(15(18"x"))"#);
+    assert_eq!([0, 1, 2].map(|node| paren.expr(node)), [None, None, Some(Expr::Reference(b"x"))]);
+    assert_eq!(paren.store.entry(), paren.store.expr_at(paren.pointer(2)));
+    // x.a."b".${c} and x ? a
+    let select = Tree::new(r#"21(3(18"x",23(18"a",6(32"b"),24(18"c")),-))"#);
+    assert_eq!([3, 4, 5, 6].map(|node| select.expr(node)), [None, string(b"a"), string(b"b"), None]);
+    assert_eq!((select.expr(7), select.expr(8)), (None, Some(Expr::Reference(b"c"))));
+    assert_eq!(Tree::new(r#"21(5(18"x",23(18"a")))"#).expr(4), string(b"a"));
+    // { a.b = 1; a.c = 2; }
+    let paths = Tree::new(r#"21(16(25(23(18"a",18"b"),9"1"),25(23(18"a",18"c"),9"2")))"#);
+    assert_eq!([4, 5, 9, 10].map(|node| paths.name(node)), [Some(&b"a"[..]), Some(b"b"), None, Some(b"c")]);
+    assert_eq!([4, 5, 9, 10].map(|node| paths.expr(node).is_some()), [true, false, false, false]);
+    assert!(is_set(paths.expr(4)) && is_set(paths.expr(1)));
+    assert_eq!([2, 3, 7, 8].map(|node| paths.expr(node)), [None, None, None, None]);
+    // { a = 1; a.b = 2; }: the second a brings no name, and makes the set.
+    let value_first = Tree::new(r#"21(16(25(23(18"a"),9"1"),25(23(18"a",18"b"),9"2")))"#);
+    assert_eq!([4, 8].map(|node| value_first.name(node)), [Some(&b"a"[..]), None]);
+    assert!(value_first.expr(4).is_none() && is_set(value_first.expr(8)));
+    // { a.b = 1; a = { c = 2; }; }: the value is merged into the set that is there.
+    let merged = Tree::new(r#"21(16(25(23(18"a",18"b"),9"1"),25(23(18"a"),16(25(23(18"c"),9"2")))))"#);
+    assert_eq!((merged.expr(10), merged.name(13)), (None, Some(&b"c"[..])));
+    // { "a" = 1; ${"b"} = 2; ${k}.c = 3; }
+    let keys = Tree::new(r#"21(16(25(23(6(32"a")),9"1"),25(23(24(6(32"b"))),9"2"),25(23(24(18"k"),18"c"),9"3")))"#);
+    assert_eq!([4, 9, 15, 17].map(|node| keys.name(node)), [Some(&b"a"[..]), Some(b"b"), None, Some(b"c")]);
+    assert!(is_set(keys.expr(15)));
+    assert_eq!([4, 9, 10, 16].map(|node| keys.expr(node)), [None, None, None, Some(Expr::Reference(b"k"))]);
+    // { inherit x; inherit (s) y; }
+    let inherits = Tree::new(r#"21(16(26(-,18"x"),26(27(18"s"),18"y")))"#);
+    assert_eq!([3, 7].map(|node| inherits.name(node)), [Some(&b"x"[..]), Some(b"y")]);
+    assert_eq!((inherits.expr(3), inherits.expr(5)), (Some(Expr::Reference(b"x")), None));
+    let Some(Expr::Select { attrpath, .. }) = inherits.expr(7) else { panic!("y of s is a Select") };
+    assert_eq!(attrpath.iter().map(|&key| inherits.store.expr_pointer(key)).collect::<Vec<_>>(), [Some(inherits.pointer(7))]);
+    // { inherit "x" ${"y"}; "a${k}".b = 1; "c${k}" = 2; }: static keys and keys that are not.
+    let strings = r#"26(-,6(32"x"),24(15(6(32"y")))),25(23(6(32"a",33(18"k")),18"b"),9"1"),25(23(6(32"c",33(18"k"))),9"2")"#;
+    let strings = Tree::new(&format!("21(16({strings}))"));
+    assert_eq!([3, 5].map(|node| strings.name(node)), [Some(&b"x"[..]), Some(b"y")]);
+    assert_eq!([3, 5].map(|node| strings.expr(node)), [Some(Expr::Reference(b"x")), Some(Expr::Reference(b"y"))]);
+    assert_eq!([5, 6, 7, 11, 19].map(|node| strings.nodes[node].kind), [24, 15, 6, 6, 6]);
+    assert_eq!([6, 7].map(|node| strings.expr(node)), [None, None]);
+    for node in [11, 19] {
+        assert!(matches!(strings.expr(node), Some(Expr::StringInterpolation(_))), "{node}");
+        assert_eq!(strings.name(node), None);
+    }
+    let sets = strings.store.exprs().filter(|&expr| strings.store.expr_pointer(expr) == Some(strings.pointer(11)));
+    assert!(is_set(sets.map(|expr| strings.store.expr(expr)).next().flatten()));
+    // p@{ f ? d }: f
+    let lambda = Tree::new(r#"21(11(29(30(18"p"),31(18"f",18"d")),18"f"))"#);
+    assert_eq!([4, 6].map(|node| (lambda.name(node), lambda.expr(node))), [(Some(&b"p"[..]), None), (Some(b"f"), None)]);
+    assert_eq!([2, 3, 5].map(|node| lambda.expr(node)), [None, None, None]);
+    // An Ident without a text has a Missing, and operators, Floats and Integers that give no value have no expression.
+    let missing = Tree::new(r#"21(13(18,20,22,14(18"l",18"r"),17(18"u"),8,9"9223372036854775808"))"#);
+    assert_eq!([2, 3, 4].map(|node| missing.expr(node)), [Some(Expr::Missing), Some(Expr::Missing), Some(Expr::Missing)]);
+    assert_eq!([5, 8, 10, 11].map(|node| missing.expr(node)), [None, None, None, None]);
+    assert_eq!([6, 7, 9].map(|node| missing.expr(node)), [Some(Expr::Reference(b"l")), None, None]);
+    assert_eq!(Tree::new(r#"21(3(18"x",23(18),-))"#).expr(4), None);
+}
+
+#[test]
+fn uses_and_names_are_found_by_their_places() {
+    // `x: { inherit x; a = x; }`, with the places of its text.
+    let entries = r#"26@5..15(-,18"x"@13..14),25@16..22(23@16..17(18"a"@16..17),18"x"@20..21)"#;
+    let found = store(&format!(r#"21@0..24(11@0..24(28@0..1(18"x"@0..1),16@3..24({entries})))"#));
+    let at = |offset| (found.reference_at(offset), found.name_around(offset));
+    let (inherited, used) = (Some(ExprId(0)), Some(ExprId(1)));
+    let text = |name: Option<NameId>| name.and_then(|name| found.name(name)).map(|name| (name.text, name.kind));
+    assert_eq!((at(0).0, text(at(0).1)), (None, Some((&b"x"[..], NameKind::Param))));
+    assert_eq!((at(13).0, text(at(13).1)), (inherited, Some((&b"x"[..], NameKind::PlainAttrset))));
+    assert_eq!((at(16).0, text(at(16).1)), (None, Some((&b"a"[..], NameKind::PlainAttrset))));
+    assert_eq!(at(20), (used, None));
+    assert_eq!([1, 12, 14, 15, 19, 21, 24, u32::MAX].map(at), [(None, None); 8]);
+
+    // Places that no text has: one around another, the same twice, and one of no length.
+    let uses = r#"18"a"@0..9,18"b"@2..6,18"c"@3..5,18"d"@3..5,18"e"@4..4,18"f"@8..11"#;
+    let odd = store(&format!("21(13({uses}))"));
+    let text = |offset| odd.reference_at(offset).and_then(|expr| odd.reference_text(expr));
+    let texts: Vec<u8> = (0..11).map(|offset| text(offset).expect("a use")[0]).collect();
+    assert_eq!(texts, b"aabddbaafff");
+    assert_eq!(text(11), None);
+    let fields = r#"31(18"a"@0..9,-),31(18"b"@2..6,-),31(18"c"@3..5,-),31(18"d"@3..5,-),31(18"e"@4..4,-),31(18"f"@8..11,-)"#;
+    let odd = store(&format!("21(11(29(-,{fields}),10))"));
+    let text = |offset| odd.name_around(offset).and_then(|name| odd.name(name)).map(|name| name.text);
+    let texts: Vec<u8> = (0..11).map(|offset| text(offset).expect("a name")[0]).collect();
+    assert_eq!(texts, b"aabddbaafff");
+    assert_eq!(text(11), None);
+}
+
+/// The example at the end of docs/STORE.md, word by word: `with a; b`.
+#[test]
+fn the_example_of_the_page() {
+    let loaded = store(r#"21@0..9(4@0..9(18"a"@5..6,18"b"@8..9))"#);
+    let words = |at: usize, count: usize| -> Vec<u32> {
+        let bytes = loaded.as_bytes()[at..].chunks_exact(4).take(count);
+        bytes.map(|four| u32::from_le_bytes(four.try_into().expect("four bytes"))).collect()
+    };
+    // Counts of expressions, names and scopes; the entry.
+    assert_eq!([0, 4, 20, 16].map(|at| words(at, 1)[0]), [3, 0, 2, 2]);
+    // First item and sort of each expression, and what else the page names.
+    let row = |e: usize| words(64 + 20 * e, 5);
+    assert_eq!((&row(0)[..2], &row(1)[..2], &row(2)[..4]), (&[0, 21][..], &[0, 21][..], &[0, 25, 0, 1][..]));
+    assert_eq!([0, 1].map(|e| loaded.reference_text(ExprId(e))), [Some(&b"a"[..]), Some(b"b")]);
+    assert_eq!(words(327_764, 9), [18, 5, 6, 18, 8, 9, 4, 0, 9]);
+    // The rows of the two scopes, and the first element behind them.
+    assert_eq!(words(2_441_300, 7), [0, 0, 0, 0, 1, 3, 0]);
+    // Scope and answer of each expression.
+    assert_eq!(words(2_310_228, 6), [1, 0, 2, 1, 1, 0]);
+    assert_eq!(loaded.ask_reference(ExprId(1)), Ok(Answer::Withs(vec![ExprId(2)])));
+    assert_eq!(loaded.ask_reference(ExprId(0)), Ok(Answer::None));
+}

@@ -223,7 +223,8 @@ fn a_path_has_at_most_16_attributes() {
     assert!(check(&with_attributes(0).expect("a sheet")).is_ok());
     assert!(check(&with_attributes(16).expect("a sheet")).is_ok());
     let error = with_attributes(17).expect_err("one too many");
-    assert_eq!(error.to_string(), "node 2 (Attrpath, 0 to 9) has 17 kids, and at most 16 are allowed");
+    let said = "node 2 (Attrpath, 0 to 9) has 17 kids, and at most 16 are allowed: the kids of an Attrpath are its attributes";
+    assert_eq!(error.to_string(), said);
 }
 
 #[test]
@@ -246,13 +247,71 @@ fn errors_say_what_and_where() {
     let (root, lambda) = (writer.add(Kind::Root, 0, 9), writer.add(Kind::Lambda, 2, 9));
     writer.link(root, [lambda]);
     let said = |writer: &SheetWriter, root| writer.finish(root).expect_err("an error").to_string();
-    assert_eq!(said(&writer, root), "node 1 (Lambda, 2 to 9) has 0 kids in place of 2");
+    let its_kids = "the kids of a Lambda are its parameter and its body";
+    let too_few = format!("node 1 (Lambda, 2 to 9) has 0 kids in place of 2: {its_kids}, and an absent one is linked as None");
+    assert_eq!(said(&writer, root), too_few);
     assert_eq!(said(&writer, lambda), "node 1 (Lambda, 2 to 9) can't be the root: that is a Root");
     writer.link(lambda, [Some(root), None]);
-    assert_eq!(said(&writer, root), "node 1 (Lambda, 2 to 9) has Root as kid 0, where an IdentParam or a Pattern is wanted");
+    let wrong = "node 1 (Lambda, 2 to 9) has Root as kid 0, where an IdentParam or a Pattern is wanted, or None";
+    assert_eq!(said(&writer, root), format!("{wrong}: {its_kids}"));
     let mut other = SheetWriter::new();
     let stray = (0..9).map(|_| other.add(Kind::Error, 0, 0)).last().expect("nine nodes");
     assert_eq!(said(&writer, stray), "node 8 is of no node that this writer gave out");
     writer.link(stray, [root]);
     assert_eq!(said(&writer, root), "node 8 is of no node that this writer gave out");
+}
+
+/// What is said of a node below a Root that has these kids.
+fn said_of(kind: Kind, kids: &[Option<Kind>]) -> String {
+    let mut writer = SheetWriter::new();
+    let (root, node) = (writer.add(Kind::Root, 0, 21), writer.add(kind, 0, 21));
+    writer.link(root, [node]);
+    let kids: Vec<Option<NodeId>> = kids.iter().map(|kid| kid.as_ref().map(|kid| writer.add(kid.clone(), 2, 3))).collect();
+    writer.link(node, kids);
+    let error = writer.finish(root).expect_err("an error");
+    let shown = format!("SheetError {{ fault: {:?}, node: {:?}, says: {:?} }}", error.fault, error.node, error.to_string());
+    assert_eq!(format!("{error:?}"), shown);
+    error.to_string()
+}
+
+#[test]
+fn errors_say_which_kids_there_are() {
+    let (x, entry) = (Some(Kind::ident("x")), Some(Kind::AttrpathValue));
+    let let_in = "the kids of a LetIn are its body, then its entries";
+    let in_text_order = format!("node 1 (LetIn, 0 to 21) has AttrpathValue as kid 0, where an expression is wanted, or None: {let_in}");
+    assert_eq!(said_of(Kind::LetIn, &[entry.clone(), x.clone()]), in_text_order);
+    let no_kids = format!("node 1 (LetIn, 0 to 21) has 0 kids, and at least 1 is wanted: {let_in}, and an absent one is linked as None");
+    assert_eq!(said_of(Kind::LetIn, &[]), no_kids);
+    let no_entry = format!("node 1 (LetIn, 0 to 21) has no kid 1, which is an item of a list and can't be absent: {let_in}");
+    assert_eq!(said_of(Kind::LetIn, &[x.clone(), None]), no_entry);
+    let no_list = format!("node 1 (LetIn, 0 to 21) has Ident as kid 1, where an AttrpathValue or an Inherit is wanted: {let_in}");
+    assert_eq!(said_of(Kind::LetIn, &[None, x.clone()]), no_list);
+    let apply = "the kids of an Apply are its function and its argument";
+    let one = format!("node 1 (Apply, 0 to 21) has 1 kid in place of 2: {apply}, and an absent one is linked as None");
+    assert_eq!(said_of(Kind::Apply, std::slice::from_ref(&x)), one);
+    let three = format!("node 1 (Apply, 0 to 21) has 3 kids in place of 2: {apply}");
+    assert_eq!(said_of(Kind::Apply, &[x.clone(), x.clone(), None]), three);
+    assert_eq!(said_of(Kind::Uri, std::slice::from_ref(&x)), "node 1 (Uri, 0 to 21) has 1 kid in place of 0: a Uri has no kids");
+    let paren =
+        "node 1 (Paren, 0 to 21) has AttrpathValue as kid 0, where an expression is wanted, or None: the kid of a Paren is its expression";
+    assert_eq!(said_of(Kind::Paren, &[entry]), paren);
+    let pattern = "the kids of a Pattern are its PatBind, then its PatEntries";
+    let no_bind = format!("node 2 (Pattern, 2 to 3) has PatEntry as kid 0, where a PatBind is wanted, or None: {pattern}");
+    assert_eq!(said_of_pattern(&[]), no_bind);
+    let field = "the kids of a PatEntry are its Ident and its default";
+    let no_default = format!("node 3 (PatEntry, 2 to 3) has 1 kid in place of 2: {field}, and an absent one is linked as None");
+    assert_eq!(said_of_pattern(&[None]), no_default);
+}
+
+/// What is said of a function of the field x, whose default is not linked, if these kids stand before the field.
+fn said_of_pattern(before: &[Option<NodeId>]) -> String {
+    let mut writer = SheetWriter::new();
+    let kinds = [Kind::Root, Kind::Lambda, Kind::Pattern { ellipsis: false }, Kind::PatEntry, Kind::ident("x")];
+    let [root, lambda, pattern, field, ident] = kinds.map(|kind| writer.add(kind, 2, 3));
+    writer.link(root, [lambda]);
+    writer.link(lambda, [Some(pattern), None]);
+    writer.link(pattern, before.iter().copied());
+    writer.link(pattern, [field]);
+    writer.link(field, [ident]);
+    writer.finish(root).expect_err("an error").to_string()
 }

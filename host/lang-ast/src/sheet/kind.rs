@@ -1,6 +1,7 @@
 //! The 33 kinds of nodes, with what each has: its kids' places, its flag and its text.
 
 use crate::operator::{BinOp, UnaryOp};
+use crate::page::Pointer;
 
 /// The most attributes of an Attrpath.
 const MOST_ATTRIBUTES: usize = 16;
@@ -9,24 +10,42 @@ const MOST_ATTRIBUTES: usize = 16;
 const INFINITY: u64 = 0x7ff0_0000_0000_0000;
 
 /// The kind of a node, with its flag and its text where the kind has them. Its kids are linked to it by a
-/// [`SheetWriter`](crate::SheetWriter); for each kind stands here which it has.
+/// [`SheetWriter`](crate::SheetWriter).
 ///
-/// A place outside a list may be absent, an item of a list may not.
+/// For each kind stands here which kids it has, in the order in which they are linked. That is not always the order of
+/// the text: a [`LetIn`](Kind::LetIn) has its body first. A place that is absent is linked as `None`, also the last;
+/// an item of a list can't be absent.
+///
+/// What kids are called, and which kinds they are of:
+///
+/// - An **expression** is of one of the kinds from [`Apply`](Kind::Apply) to [`LegacyLet`](Kind::LegacyLet). Functions,
+///   arguments, conditions, then and else, sets, defaults, namespaces, bodies, values, left and right are expressions.
+/// - A **path** is an [`Attrpath`](Kind::Attrpath): what stands before the `=` of an entry, and behind the `.` or the
+///   `?` of `set.path` and `set ? path`.
+/// - An **attribute** is what a path has between its dots, or one of those that an inherit lists: an
+///   [`Ident`](Kind::Ident), a [`Str`](Kind::Str) or a [`Dynamic`](Kind::Dynamic).
+/// - An **entry** is what sets and lets are made of: an [`AttrpathValue`](Kind::AttrpathValue), `path = value;`, or an
+///   [`Inherit`](Kind::Inherit), `inherit ..;`.
+/// - A **part** is a piece of a string or of a path as `./a`: a [`LiteralPart`](Kind::LiteralPart) or an
+///   [`Interpolation`](Kind::Interpolation).
+/// - A **parameter** is what a function has before its colon: an [`IdentParam`](Kind::IdentParam), `x:`, or a
+///   [`Pattern`](Kind::Pattern), `{ .. }:`.
+/// - A **from** is the `(source)` of `inherit (source) ..;`: an [`InheritFrom`](Kind::InheritFrom).
 #[derive(Debug, Clone, PartialEq)]
 pub enum Kind {
-    /// Function, argument.
+    /// `f a`: function, argument.
     Apply,
-    /// Condition, then, else.
+    /// `if c then a else b`: condition, then, else.
     IfElse,
-    /// Set, path, default.
+    /// `set.path or default`: set, path, default.
     Select,
-    /// Namespace, body.
+    /// `with namespace; body`: namespace, body.
     With,
-    /// Set, path.
+    /// `set ? path`: set, path.
     HasAttr,
-    /// A list of parts.
+    /// A string: a list of parts.
     Str,
-    /// A list of parts; here the whole path as it is written.
+    /// A path as `./a`: a list of parts; here the whole path as it is written.
     Path(Vec<u8>),
     /// No kids; its value, which is not negative and no NaN, or none if it has no value.
     Float(Option<f64>),
@@ -34,17 +53,17 @@ pub enum Kind {
     Integer(Vec<u8>),
     /// No kids.
     Uri,
-    /// Parameter, body.
+    /// A function: parameter, body.
     Lambda,
-    /// Body, then a list of entries.
+    /// `let entries in body`: the body, then a list of entries.
     LetIn,
-    /// A list of expressions.
+    /// `[ .. ]`: a list of expressions.
     List,
     /// Left, right; the operator, if there is one.
     BinOp(Option<BinOp>),
-    /// An expression.
+    /// `( .. )`: an expression.
     Paren,
-    /// A list of entries.
+    /// `{ .. }`: a list of entries.
     AttrSet {
         /// Whether it is `rec { .. }`.
         rec: bool,
@@ -53,34 +72,34 @@ pub enum Kind {
     UnaryOp(Option<UnaryOp>),
     /// No kids; its text, which may be empty, or none if it has no text.
     Ident(Option<Vec<u8>>),
-    /// Condition, body.
+    /// `assert condition; body`: condition, body.
     Assert,
     /// No kids: what could not be parsed.
     Error,
     /// An expression: the whole file.
     Root,
-    /// No kids.
+    /// `let { .. }`: no kids.
     LegacyLet,
-    /// A list of at most 16 attributes.
+    /// `a.b`: a list of at most 16 attributes.
     Attrpath,
     /// An expression: the attribute `${..}`.
     Dynamic,
-    /// Path, value.
+    /// `path = value;`: path, value.
     AttrpathValue,
-    /// From, then a list of attributes.
+    /// `inherit from attributes;`: the from, then a list of attributes.
     Inherit,
-    /// An expression.
+    /// `(source)`: an expression.
     InheritFrom,
-    /// An Ident.
+    /// The parameter `x:`; an Ident.
     IdentParam,
-    /// A PatBind, then a list of PatEntries.
+    /// The parameter `bind@{ entries }:`; a PatBind, then a list of PatEntries.
     Pattern {
         /// Whether it ends in `...`.
         ellipsis: bool,
     },
-    /// An Ident.
+    /// The `x@` of a pattern; an Ident.
     PatBind,
-    /// An Ident, and a default.
+    /// The `x` or `x ? default` of a pattern; an Ident, and a default.
     PatEntry,
     /// No kids; the text of a part that is not interpolated.
     LiteralPart(Vec<u8>),
@@ -205,6 +224,17 @@ impl Kind {
         self.numbered().0
     }
 
+    /// The pointer of a node of this kind from here to there. Its text and its flag are no part of it.
+    ///
+    /// ```
+    /// use lang_ast::{Kind, Pointer};
+    /// assert_eq!(Kind::ident("x").pointer(3, 4), Pointer::new(18, 3, 4));
+    /// assert_eq!(Kind::ident("x").pointer(3, 4), Kind::Ident(None).pointer(3, 4));
+    /// ```
+    pub const fn pointer(&self, from: u32, to: u32) -> Pointer {
+        Pointer::new(self.number(), from, to)
+    }
+
     /// What the kind is called.
     ///
     /// ```
@@ -306,6 +336,45 @@ impl Kind {
             Kind::PatEntry => counted(&[Ident, Expression]),
             Kind::Float(_) | Kind::Integer(_) | Kind::Uri | Kind::Ident(_) => counted(&[]),
             Kind::Error | Kind::LegacyLet | Kind::LiteralPart(_) => counted(&[]),
+        }
+    }
+
+    /// A sentence on the kids that it has, in their order.
+    pub(crate) fn kids_in_words(&self) -> String {
+        let name = self.name();
+        let article = if name.starts_with(['A', 'E', 'I']) { "an" } else { "a" };
+        let Places { counted, list, .. } = self.places();
+        match (counted.len(), list) {
+            (0, None) => format!("{article} {name} has no kids"),
+            (1, None) => format!("the kid of {article} {name} is {}", self.kids()),
+            _ => format!("the kids of {article} {name} are {}", self.kids()),
+        }
+    }
+
+    const fn kids(&self) -> &'static str {
+        match self {
+            Kind::Apply => "its function and its argument",
+            Kind::IfElse => "its condition, its then and its else",
+            Kind::Select => "its set, its path and its default",
+            Kind::With => "its namespace and its body",
+            Kind::HasAttr => "its set and its path",
+            Kind::Str | Kind::Path(_) => "its parts",
+            Kind::Lambda => "its parameter and its body",
+            Kind::LetIn => "its body, then its entries",
+            Kind::List => "its expressions",
+            Kind::BinOp(_) => "its left and its right",
+            Kind::AttrSet { .. } => "its entries",
+            Kind::Assert => "its condition and its body",
+            Kind::Paren | Kind::UnaryOp(_) | Kind::Root => "its expression",
+            Kind::Dynamic | Kind::InheritFrom | Kind::Interpolation => "its expression",
+            Kind::Attrpath => "its attributes",
+            Kind::AttrpathValue => "its path and its value",
+            Kind::Inherit => "its from, then its attributes",
+            Kind::IdentParam | Kind::PatBind => "its Ident",
+            Kind::Pattern { .. } => "its PatBind, then its PatEntries",
+            Kind::PatEntry => "its Ident and its default",
+            Kind::Float(_) | Kind::Integer(_) | Kind::Uri | Kind::Ident(_) => "none",
+            Kind::Error | Kind::LegacyLet | Kind::LiteralPart(_) => "none",
         }
     }
 }

@@ -1,6 +1,6 @@
 //! From a tree to its sheet.
 
-use super::error::{Fault, SheetError};
+use super::error::{About, Fault, SheetError};
 use super::kind::Kind;
 
 /// The longest sheet, in bytes.
@@ -25,8 +25,9 @@ impl NodeId {
 
 /// Writes the sheet of a tree, as docs/SHEET.md has it.
 ///
-/// Nodes are added and linked in any order: [`finish`](SheetWriter::finish) numbers them as the sheet wants them. It writes no sheet that a
-/// load refuses: what is against the rules is an error that says what and where.
+/// Nodes are added and linked in any order: [`finish`](SheetWriter::finish) numbers them as the sheet wants them. The
+/// kids of one node stand in the order that [`Kind`] says, which is not always the text's: a LetIn has its body first.
+/// It writes no sheet that a load refuses: what is against the rules is an error that says what and where.
 ///
 /// ```
 /// use lang_ast::{Kind, SheetWriter, Store};
@@ -69,12 +70,15 @@ impl SheetWriter {
     }
 
     /// Adds a node from one place of the source text to another, without kids.
+    ///
+    /// The places are in a unit of your own, see [`Pointer`](crate::Pointer); `from` must not be above `to`.
     pub fn add(&mut self, kind: Kind, from: u32, to: u32) -> NodeId {
         self.nodes.push(Node { kind, from, to, kids: Vec::new() });
         NodeId(self.nodes.len() - 1)
     }
 
-    /// Adds kids behind those that the parent has. A place that is absent is `None`.
+    /// Adds kids behind those that the parent has, in the order that [`Kind`] says for the parent. A place that is
+    /// absent is `None`, also the last.
     ///
     /// ```
     /// use lang_ast::{Kind, SheetWriter};
@@ -104,7 +108,7 @@ impl SheetWriter {
     /// writer.link(root, [path]);
     /// let error = writer.finish(root).unwrap_err();
     /// assert_eq!(error.node, root);
-    /// assert_eq!(error.to_string(), "node 0 (Root, 0 to 1) has Attrpath as kid 0, where an expression is wanted");
+    /// assert!(matches!(error.fault, Fault::WrongKid { index: 0, kind: "Attrpath", .. }), "{error}");
     /// ```
     pub fn finish(&self, root: NodeId) -> Result<Vec<u8>, SheetError> {
         if let Some(stray) = self.stray {
@@ -125,8 +129,12 @@ impl SheetWriter {
     }
 
     fn wrong<T>(&self, fault: Fault, node: NodeId) -> Result<T, SheetError> {
-        let what = |node: &Node| format!(" ({}, {} to {})", node.kind.name(), node.from, node.to);
-        Err(SheetError { fault, node, what: self.nodes.get(node.0).map(what).unwrap_or_default() })
+        let about = |node: &Node| About {
+            what: format!(" ({}, {} to {})", node.kind.name(), node.from, node.to),
+            kids: node.kind.kids_in_words(),
+            counted: node.kind.places().least(),
+        };
+        Err(SheetError { fault, node, about: self.nodes.get(node.0).map(about).unwrap_or_default() })
     }
 
     fn node(&self, id: NodeId) -> Result<&Node, SheetError> {

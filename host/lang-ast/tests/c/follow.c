@@ -1,25 +1,58 @@
-/* A host in C: loads the sheet of `x: x`, follows x to its definition, renames the definition, and follows again.
- * follow SHEET prints what it finds, a line a step; its exit status is 1 where something could not be done. */
+/* A host in C: loads the sheet of `x: x`, follows the x of the body to its definition, renames the definition, and
+ * follows again. follow SHEET prints what it finds, a line a step; its exit status is 1 where something could not be
+ * done. */
 #include "lang_ast.h"
 
 #include <stdio.h>
 #include <stdlib.h>
 
-static uint8_t reply[LANG_AST_REPLY_BYTES];
-static uint8_t buffer[64];
+/* The kind of an Ident, and the place of the body. */
+#define IDENT 18
+#define BODY_FROM 3
+#define BODY_TO 4
 
-static uint32_t word(const uint8_t *at) {
-    return (uint32_t)at[0] | (uint32_t)at[1] << 8 | (uint32_t)at[2] << 16 | (uint32_t)at[3] << 24;
+static uint8_t reply[LANG_AST_REPLY_BYTES];
+static uint8_t buffer[LANG_AST_BUFFER_BYTES];
+
+static unsigned of_reply(size_t at) {
+    return (unsigned)lang_ast_word(reply, at);
 }
 
 static void said(const char *step, uint32_t refusal) {
-    printf("%s: refusal %u, place %u, answer %u, to %u, length %u\n", step, (unsigned)refusal,
-           (unsigned)word(reply + LANG_AST_REPLY_PLACE), (unsigned)word(reply + LANG_AST_REPLY_ANSWER),
-           (unsigned)word(reply + LANG_AST_REPLY_TO), (unsigned)word(reply + LANG_AST_REPLY_LENGTH));
-    if (refusal != word(reply + LANG_AST_REPLY_REFUSAL)) {
-        printf("but the reply says %u\n", (unsigned)word(reply + LANG_AST_REPLY_REFUSAL));
+    printf("%s: refusal %u, place %u, answer %u, to %u, length %u\n", step, (unsigned)refusal, of_reply(LANG_AST_REPLY_PLACE),
+           of_reply(LANG_AST_REPLY_ANSWER), of_reply(LANG_AST_REPLY_TO), of_reply(LANG_AST_REPLY_LENGTH));
+    if (refusal != lang_ast_word(reply, LANG_AST_REPLY_REFUSAL)) {
+        printf("but the reply says %u\n", of_reply(LANG_AST_REPLY_REFUSAL));
         exit(1);
     }
+}
+
+/* Whether the pointer at this offset of the store is that of a node. */
+static int points_to(const uint8_t *store, size_t pointer, uint32_t kind, uint32_t from, uint32_t to) {
+    return lang_ast_word(store, pointer + LANG_AST_POINTER_KIND) == kind &&
+           lang_ast_word(store, pointer + LANG_AST_POINTER_FROM) == from &&
+           lang_ast_word(store, pointer + LANG_AST_POINTER_TO) == to;
+}
+
+/* The expression of a node, or how many there are if it has none. */
+static uint32_t expression_of(const uint8_t *store, uint32_t kind, uint32_t from, uint32_t to) {
+    uint32_t count = lang_ast_word(store, LANG_AST_EXPR_COUNT);
+    for (uint32_t number = count; number-- > 0;) {
+        size_t row = LANG_AST_EXPRS + (size_t)number * LANG_AST_EXPR_BYTES;
+        size_t pointer = LANG_AST_EXPR_POINTERS + (size_t)number * LANG_AST_POINTER_BYTES;
+        if (lang_ast_word(store, row + LANG_AST_EXPR_SORT) != LANG_AST_SORT_NO_NODE && points_to(store, pointer, kind, from, to)) {
+            return number;
+        }
+    }
+    return count;
+}
+
+/* Where a name is defined. */
+static void show_place(const uint8_t *store, uint32_t name) {
+    size_t pointer = LANG_AST_NAME_POINTERS + (size_t)name * LANG_AST_POINTER_BYTES;
+    printf("n%u of %u is at %u to %u\n", (unsigned)name, (unsigned)lang_ast_word(store, LANG_AST_NAME_COUNT),
+           (unsigned)lang_ast_word(store, pointer + LANG_AST_POINTER_FROM),
+           (unsigned)lang_ast_word(store, pointer + LANG_AST_POINTER_TO));
 }
 
 static size_t read_sheet(const char *path, uint8_t *sheet, size_t most) {
@@ -33,9 +66,9 @@ static size_t read_sheet(const char *path, uint8_t *sheet, size_t most) {
     return length;
 }
 
-static void ask(const uint8_t *store) {
-    said("ask e0", lang_ast_ask_reference(store, LANG_AST_STORE_BYTES, 0, buffer, sizeof buffer, reply, sizeof reply));
-    said("ask n0", lang_ast_ask_name(store, LANG_AST_STORE_BYTES, 0, buffer, sizeof buffer, reply, sizeof reply));
+static void ask(const uint8_t *store, uint32_t use, uint32_t name) {
+    said("ask the use", lang_ast_ask_reference(store, LANG_AST_STORE_BYTES, use, buffer, sizeof buffer, reply, sizeof reply));
+    said("ask the name", lang_ast_ask_name(store, LANG_AST_STORE_BYTES, name, buffer, sizeof buffer, reply, sizeof reply));
 }
 
 /* Nothing is lent: the pointers of empty slices are not looked at. */
@@ -59,14 +92,22 @@ int main(int count, char **words) {
     said("load no sheet", lang_ast_load(NULL, 0, store, LANG_AST_STORE_BYTES, reply, sizeof reply));
     said("ask too early", lang_ast_ask_reference(store, LANG_AST_STORE_BYTES, 0, NULL, 0, reply, sizeof reply));
     said("load", lang_ast_load(sheet, length, store, LANG_AST_STORE_BYTES, reply, sizeof reply));
-    ask(store);
-    printf("first use: e%u\n", (unsigned)word(buffer));
-    said("name n0 y", lang_ast_change_name(store, LANG_AST_STORE_BYTES, 0, (const uint8_t *)"y", 1, reply, sizeof reply));
-    ask(store);
-    said("name e0 y", lang_ast_change_reference(store, LANG_AST_STORE_BYTES, 0, (const uint8_t *)"y", 1, reply, sizeof reply));
-    ask(store);
-    said("ask without a buffer", lang_ast_ask_name(store, LANG_AST_STORE_BYTES, 0, NULL, 0, reply, sizeof reply));
-    said("name n0 no text", lang_ast_change_name(store, LANG_AST_STORE_BYTES, 0, NULL, 0, reply, sizeof reply));
+    uint32_t use = expression_of(store, IDENT, BODY_FROM, BODY_TO);
+    printf("the body is e%u of %u\n", (unsigned)use, (unsigned)lang_ast_word(store, LANG_AST_EXPR_COUNT));
+    said("follow", lang_ast_ask_reference(store, LANG_AST_STORE_BYTES, use, buffer, sizeof buffer, reply, sizeof reply));
+    if (lang_ast_word(reply, LANG_AST_REPLY_ANSWER) != LANG_AST_ANSWER_DEFINITION) {
+        return 1;
+    }
+    uint32_t name = lang_ast_word(reply, LANG_AST_REPLY_TO);
+    show_place(store, name);
+    ask(store, use, name);
+    printf("first use: e%u\n", (unsigned)lang_ast_word(buffer, 0));
+    said("name it y", lang_ast_change_name(store, LANG_AST_STORE_BYTES, name, (const uint8_t *)"y", 1, reply, sizeof reply));
+    ask(store, use, name);
+    said("use y", lang_ast_change_reference(store, LANG_AST_STORE_BYTES, use, (const uint8_t *)"y", 1, reply, sizeof reply));
+    ask(store, use, name);
+    said("ask without a buffer", lang_ast_ask_name(store, LANG_AST_STORE_BYTES, name, NULL, 0, reply, sizeof reply));
+    said("name it nothing", lang_ast_change_name(store, LANG_AST_STORE_BYTES, name, NULL, 0, reply, sizeof reply));
     free(store);
     return 0;
 }
