@@ -45,18 +45,16 @@ pub fn load(sheet: &[u8]) -> Result<Opened, String> {
     Ok(Opened { store, tree, again, source: None })
 }
 
-/// A refusal in a sentence, with its number and its place.
+/// A refusal in the library's sentence; where that tells a byte of the sheet, its line too.
 pub fn refused(refusal: Refusal, sheet: &[u8]) -> String {
     let Refusal { number, place } = refusal;
-    let at = match number {
+    match number {
         2 | 3 => {
             let before = sheet.get(..place as usize).unwrap_or(sheet);
-            format!(" at byte {place}, line {}", before.iter().filter(|&&byte| byte == b'\n').count() + 1)
+            format!("{refusal} (line {} of the sheet)", before.iter().filter(|&&byte| byte == b'\n').count() + 1)
         }
-        4..=7 => format!(" at node {place}"),
-        _ => String::new(),
-    };
-    format!("refused: {refusal} (refusal {number}{at})")
+        _ => refusal.to_string(),
+    }
 }
 
 /// A Nix text, if it is the one that the sheet was made from: markers under the wrong names would mislead.

@@ -268,6 +268,6 @@ mod tests {
         trial.follow("x", 0, "nothing");
         let line = Line { letter: 'E', title: "of a test", trials: vec![trial] };
         assert!(!line.ok());
-        assert!(line_text(&line).contains("refusal 3 at byte 0, line 1"));
+        assert!(line_text(&line).contains("(line 1 of the sheet)"));
     }
 }

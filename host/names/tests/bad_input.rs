@@ -34,16 +34,20 @@ fn files_that_can_t_be_read() {
 
 #[test]
 fn sheets_that_are_refused() {
-    let form = "the sheet's line at byte 8 is not written as it should be, or should not be there (refusal 2 at byte 8, line 2)";
-    refused(&["show", "-"], b"nodes=1\nkind:21\n", &format!("standard input: refused: {form}"));
-    let empty = "the sheet's line at byte 0 is not written as it should be, or should not be there (refusal 2 at byte 0, line 1)";
-    refused(&["follow", "-", "0"], b"", &format!("standard input: refused: {empty}"));
+    let form = |byte: usize, line: usize| {
+        format!(
+            "standard input: refused (2): at byte {byte} of the sheet a line is missing, or is without its key, its form or the newline at \
+             its end, or bytes follow the last line (line {line} of the sheet)"
+        )
+    };
+    refused(&["show", "-"], b"nodes=1\nkind:21\n", &form(8, 2));
+    refused(&["follow", "-", "0"], b"", &form(0, 1));
     let kid = b"nodes=1\nkind=21\nfrom=0\nto=0\nflag=0\nkids=\ntext=\n";
-    let sentence = "refused: node 0 of the sheet has too few or too many kids (refusal 4 at node 0)";
+    let sentence = "refused (4): node 0 of the sheet has too few or too many kids";
     let path = file("no-kid.sheet", kid);
     refused(&["lines", &path], b"", "lines takes nothing more: `names --help` says more");
     refused(&["run", &path], b"", &format!("{path}: {sentence}"));
-    let long = "standard input: refused: the sheet has more than 1,048,576 bytes (refusal 1)";
+    let long = "standard input: refused (1): the sheet has more than 1,048,576 bytes";
     refused(&["show", "-"], &vec![b'n'; 3_000_000], long);
 }
 
@@ -78,6 +82,6 @@ fn damaged_sheets_get_a_sentence() {
         let (sheet, what) = generate::damaged(seed);
         let ran = names_with(&["show", "-"], &sheet);
         assert_eq!(ran.status == 0, ran.err.is_empty(), "{what}");
-        assert!(ran.status == 0 || ran.err.starts_with("names: standard input: refused: "), "{what}: {}", ran.err);
+        assert!(ran.status == 0 || ran.err.starts_with("names: standard input: refused ("), "{what}: {}", ran.err);
     }
 }

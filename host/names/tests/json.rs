@@ -116,7 +116,7 @@ fn rename_run_and_lines_are_json_too() {
         "\n",
         r#"{"call":"set-name","number":0,"accepted":true}"#,
         "\n",
-        r#"{"call":"ask-ref","number":1,"accepted":false,"refused":25,"at":1,"why":"expression 1 is no Reference"}"#,
+        r#"{"call":"ask-ref","number":1,"accepted":false,"refused":25,"at":1,"why":"refused (25): expression 1 is no Reference"}"#,
         "\n"
     );
     assert_eq!(run, expected);

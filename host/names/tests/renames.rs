@@ -151,7 +151,7 @@ fn what_can_t_be_renamed_is_told() {
     let number = err(&["rename", "examples/line-b-builtin-under-with.sheet", "13", "z"]);
     assert_eq!(number, "names: no name stands at byte 13, but a number (e0) at 13..14\n");
     let long = err(&["rename", "examples/lambda.sheet", "0", &"z".repeat(256)]);
-    assert_eq!(long, "names: the rename is refused: the new text has more than 255 bytes (refusal 8)\n");
+    assert_eq!(long, "names: the rename is refused (8): the new text has more than 255 bytes\n");
 }
 
 /// The changes that a rename lists are a script that `names run` takes, and make it.
