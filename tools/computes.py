@@ -1,7 +1,9 @@
 #!/usr/bin/env python3
 """computes.py: writes crates/spec/specs/Computes.antt anew, which names every definition of crates/spec and of those that it is written with.
-Run it at the repository's root after a definition is added, renamed or removed."""
+It is run after a definition is added, renamed or removed."""
 import os, re
+
+os.chdir(os.path.dirname(os.path.dirname(os.path.abspath(__file__))))
 
 def definitions(crate):
     for file in sorted(os.listdir(f'crates/{crate}/specs')):

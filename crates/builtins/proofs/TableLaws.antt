@@ -1,7 +1,8 @@
 -- The rule of the table at each of its entries, from the tests that are computed over the whole of it. Assumes nothing.
 use mathlib.Core.Path.{_≡_, refl, sym, ap, _∙_}
-use mathlib.Core.Bool.{Bool, true, false, _||_, _&&_, not}
+use mathlib.Core.Bool.{Bool, true, false, _||_, not}
 use mathlib.Core.List.{List, [], _∷_}
+use mathlib.Mathlib.Data.Bool.Basic.{and-elim-left, and-elim-right}
 use Prim.Native.Nat.{ℕ, zero, suc, _≤_, _<_}
 use native.Mathlib.Omega.{arith}
 use lib.ListN.{length, take, getD}
@@ -10,7 +11,7 @@ use lib.Dec.{leb, ltb, eqb, leb→le, eqb→eq}
 use borrow.Author.Tests.{not-true, ltb-true, ltb-false}
 use Rattle.words.specs.Equality.{equalb}
 use Rattle.words.proofs.EqualityLaws.{equalb-refl}
-use Rattle.words.proofs.Tests.{at-number, both-first}
+use Rattle.words.proofs.Tests.{at-number}
 use Rattle.spec.specs.Basics.{Text}
 use Rattle.spec.specs.Answer.{builtins}
 use Rattle.builtins.specs.Table.{rows, lengths, firsts, spelt, nameAt, table-says, among, distinct, all-distinct}
@@ -73,12 +74,8 @@ below-apart : (xs : List Text) → distinct xs ≡ true → (i j : ℕ) → i < 
 unfolding distinct
 below-apart [] e i j h l q = omega arith
 below-apart (x ∷ xs) e i zero h l q = omega arith
-below-apart (x ∷ xs) e zero (suc j) h l q = not-among x xs (not-true (among x xs) (both-first (not (among x xs)) (distinct xs) e)) j (omega arith) (sym q)
-below-apart (x ∷ xs) e (suc i) (suc j) h l q = below-apart xs (both-second (not (among x xs)) (distinct xs) e) i j (omega arith) (omega arith) q
-  where
-    both-second : (a b : Bool) → (a && b) ≡ true → b ≡ true
-    both-second true b z = z
-    both-second false b z = let n : false ≡ true = z in cc
+below-apart (x ∷ xs) e zero (suc j) h l q = not-among x xs (not-true (among x xs) (and-elim-left (not (among x xs)) (distinct xs) e)) j (omega arith) (sym q)
+below-apart (x ∷ xs) e (suc i) (suc j) h l q = below-apart xs (and-elim-right (not (among x xs)) (distinct xs) e) i j (omega arith) (omega arith) q
 
 pub names-apart : (i j : ℕ) → i < 22 → j < 22 → (i ≡ j → ⊥) → getD builtins i [] ≡ getD builtins j [] → ⊥
 names-apart i j h k n q = go (ltb i j) refl

@@ -9,10 +9,10 @@ ghost use Rattle.builtins.specs.Table.{nameAt};
 use crate::table::first_at;
 use crate::table::length_at;
 use crate::table::row_at;
-use intake::text_byte;
-use intake::text_is;
-use intake::text_length;
 use module::TextId;
+use texts::text_byte;
+use texts::text_is;
+use texts::text_length;
 
 // The number of a built-in name among them, from 0 on.
 pub enum MaybeBuiltin {

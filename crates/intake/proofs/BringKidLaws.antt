@@ -1,13 +1,11 @@
 -- The kids of a list, read one after the other and written in their places. Assumes nothing.
 use mathlib.Core.Path.{_≡_, refl, sym, ap, _∙_, subst}
-use mathlib.Core.Bool.{Bool, true, false, _&&_}
 use mathlib.Core.List.{List, [], _∷_, _++_, append-nil, append-assoc}
 use mathlib.Core.Option.{Option, none, some}
 use Prim.Native.Nat.{ℕ, _+_, _-_, _*_, _≤_, _<_, _^_}
 use native.Mathlib.Omega.{arith}
 use lib.ListN.{length, length-append}
-use lib.Dec.{ltb}
-use borrow.Author.Tests.{ltb-true, ne-eqb}
+use borrow.Author.Tests.{ne-eqb}
 use Rattle.words.specs.Runs.{run}
 use Rattle.words.specs.Words.{word, setWord}
 use Rattle.words.proofs.WordLaws.{word-setWord-same}
@@ -17,13 +15,14 @@ use Rattle.sheet.specs.Kids.{shortKids, kidsFrom, StepInside}
 use Rattle.sheet.proofs.KidLaws.{Before, walk-end, walk-malformed, walk-absent, walk-number}
 use Rattle.sheet.specs.declared.kids.KidStep.{KidStep}
 use Rattle.sheet.specs.declared.kids.KidStep.the-variants as step
-use Rattle.layout.specs.Layout.{Long, absent, kidsAt, textsAt, kidLimit, nodeLimit}
+use Rattle.layout.specs.Layout.{absent, nodeLimit, kidLimit, kidsAt, textsAt, Long}
 use Rattle.layout.specs.Rows.{rowsFrom, marked}
 use Rattle.layout.specs.Nodes.{kidIn}
 use Rattle.intake.specs.Bring.{Within, kidsIn, Kids, After, KidRead, KidsIn, KidsOver}
 use Rattle.intake.specs.declared.bring.KidWord.{KidWord}
 use Rattle.intake.specs.declared.bring.KidWord.the-variants as kid
 use Rattle.layout.proofs.RowLaws.{between-same, between-none, between-more, length-between}
+use Rattle.tree.proofs.NodeLaws.{below-head}
 use Rattle.intake.proofs.WithinLaws.{within-none, within-put, within-wide, within-then, word-before}
 
 -- ---- the word of a kid
@@ -34,14 +33,6 @@ marked-absent = refl
 marked-low : (k : ℕ) → k < nodeLimit → marked k ≡ some k
 unfolding marked
 marked-low k h = rw (ne-eqb k absent (λ e. omega arith))
-
-both : (t u : Bool) → (t && u) ≡ true → t ≡ true
-both true u h = refl
-both false u h = cc
-
-below-head : (nodes k : ℕ) (ks : List (Option NodeId)) → allBelow nodes (some k ∷ ks) ≡ true → k < nodes
-unfolding allBelow
-below-head nodes k ks h = ltb-true k nodes (both (ltb k nodes) (allBelow nodes ks) h)
 
 module _ (s : List ℕ) (at end : ℕ) (h : Kids s at end) where
   after : (k : Option NodeId) (w next : ℕ) → marked w ≡ k → Before s next end nodeLimit k (kidsIn s at end) → (at < next) × (next ≤ end) → After s at end w next
@@ -61,7 +52,7 @@ module _ (s : List ℕ) (at end : ℕ) (h : Kids s at end) where
       }
 
   module _ (r : KidStep) (e : (kidsFrom s end r ≡ shortKids (run s at (end - at))) × StepInside r at end) where
-    few : nodeLimit ≤ 4294967295
+    few : nodeLimit ≤ absent
     few = omega arith
 
     pub word-end : r ≡ step.End → kidsIn s at end ≡ []

@@ -26,16 +26,16 @@ use Rattle.sheet.specs.declared.nodes.NodeRead.{NodeRead}
 use Rattle.sheet.specs.declared.nodes.NodeRead.the-variants as read
 use Rattle.sheet.specs.declared.numbers.NumberRead.{NumberRead}
 use Rattle.sheet.specs.declared.numbers.NumberRead.the-variants as number
-use Rattle.layout.specs.Layout.{Long, storeBytes, textsPlace, textsAt, nodeCount, nodesAt, kidsAt, nodeLimit, kidLimit}
+use Rattle.layout.specs.Layout.{nodeLimit, kidLimit, sheetTextLimit, nodeRow, textsPlace, nodeCount, nodesAt, kidsAt, textsAt, storeBytes, Long}
 use Rattle.layout.specs.Rows.{rowsTo}
 use Rattle.layout.specs.Texts.{textsUsed, textIn}
 use Rattle.layout.specs.Regions.{bringing}
 use Rattle.layout.specs.Nodes.{nodeIn, nodesOf}
 use Rattle.spec.specs.Tree.{kidPlaces}
-use Rattle.spec.proofs.Lines.{number-within}
-use Rattle.spec.proofs.Sums.{sum-append}
-use Rattle.spec.proofs.TextRoom.{textBytes, node-long}
-use Rattle.intake.specs.Bring.{Within, sheetTexts, kidsIn, Spans, Rows, RowIn, RowOver, RowBrought, ahead, Bringing, Refuses, NodeIn, Stopped, NodeBrought, Counted, AllIn, AllBrought, Brought}
+use Rattle.spec.proofs.reading.Lines.{number-within}
+use Rattle.spec.proofs.general.Sums.{sum-append}
+use Rattle.spec.proofs.room.TextRoom.{textBytes, node-long}
+use Rattle.intake.specs.Bring.{Within, kidsIn, Spans, Rows, RowIn, RowOver, RowBrought, ahead, Bringing, Refuses, NodeIn, Stopped, NodeBrought, Counted, AllIn, AllBrought, Brought}
 use Rattle.intake.specs.declared.bring.Front.{Front}
 use Rattle.intake.specs.declared.bring.Room.{Room}
 use Rattle.intake.specs.declared.bring.Room.the-variants as room
@@ -44,7 +44,7 @@ use Rattle.intake.specs.declared.bring.Step.the-variants as step
 use Rattle.layout.proofs.RowLaws.{cap-le, rows-same, rows-none, length-rows}
 use Rattle.layout.proofs.Frames.{wrote-none, wrote-then}
 use Rattle.intake.proofs.WithinLaws.{within-none, within-put, within-wide, within-then, word-before, word-after, within-past, brings-used, brings-sheet}
-use Rattle.intake.proofs.TextLaws.{used-is, text-in}
+use Rattle.texts.proofs.ReadLaws.{used-is, text-in}
 use Rattle.intake.proofs.BringRowLaws.{node-same}
 
 -- ---- an accepted sheet
@@ -186,7 +186,7 @@ module _ (s : List ℕ) (count i : ℕ) (f : Front) (t : List ℕ) (b : Bringing
                   )
               go (bad w at) q = let z : _≡_ {A = ℕ} 0 1 = cc in omega arith
 
-          long : (ns : List Node) → readSheet s ≡ accepted ns → sheetTexts < f .texts + 4 + length (nodeOf s n .text) → ⊥
+          long : (ns : List Node) → readSheet s ≡ accepted ns → sheetTextLimit < f .texts + 4 + length (nodeOf s n .text) → ⊥
           long ns a k = omega (arith, whole-sheet s ns a .short, inside, apart, b .half)
 
       -- whatever became of its row
@@ -222,11 +222,11 @@ ahead-none : (g : Got (List Node)) → ahead [] g ≡ g
 ahead-none (got ms at) = refl
 ahead-none (bad w at) = refl
 
-pub bringing-start : (s : List ℕ) (count : ℕ) (first : Position) → Counted s count (first .at) → (t t₀ t₁ : List ℕ) → Long t → t₀ ≡ setWord t textsPlace sheetTexts → t₁ ≡ setWord t₀ nodesAt 0
+pub bringing-start : (s : List ℕ) (count : ℕ) (first : Position) → Counted s count (first .at) → (t t₀ t₁ : List ℕ) → Long t → t₀ ≡ setWord t textsPlace sheetTextLimit → t₁ ≡ setWord t₀ nodesAt 0
     → Bringing s count 0 (record { next = first; kids = 0; texts = 0 }) t₁
 unfolding kidPlaces
 bringing-start s count first c t t₀ t₁ long d e =
-    let size : length t₀ ≡ length t = rw d (length-setWord t textsPlace sheetTexts) in
+    let size : length t₀ ≡ length t = rw d (length-setWord t textsPlace sheetTextLimit) in
     let all : count - 0 ≡ count = omega arith in
     record {
       left = omega arith;
@@ -239,7 +239,7 @@ bringing-start s count first c t t₀ t₁ long d e =
           record {
             in-use =
                 rw (e, word-setWord-other t₀ nodesAt 0 textsPlace (inl (omega arith)), d)
-                (word-setWord-same t textsPlace sheetTexts (omega arith) (omega arith));
+                (word-setWord-same t textsPlace sheetTextLimit (omega arith) (omega arith));
             here = ap (λ (x : List ℕ). word x nodesAt) e ∙ word-setWord-same t₀ nodesAt 0 (omega arith) (omega arith);
             kid-room = omega arith;
             text-room = omega arith;
@@ -286,14 +286,14 @@ text-above t u w k a b =
 -- what is written below the rows leaves the nodes, where their texts lie within the bytes in use
 node-above : (t u : List ℕ) → Within t u 0 nodesAt → (count kids texts : ℕ) → Rows t count kids texts → word u textsPlace ≡ texts → (k : ℕ) → k < count → nodeIn u k ≡ nodeIn t k
 node-above t u w count kids texts r e k h =
-    node-same t u k (λ d l. word-after w (nodesAt + 24 * k + d) (omega arith)) (λ j l. word-after w (kidsAt + 4 * j) (omega arith))
-    (text-above t u w (word t (nodesAt + 24 * k + 20))
-    (omega (arith, r .settled k h .text-end, r .text-room, used-is t sheetTexts (r .in-use) (omega arith)))
+    node-same t u k (λ d l. word-after w (nodesAt + nodeRow * k + d) (omega arith)) (λ j l. word-after w (kidsAt + 4 * j) (omega arith))
+    (text-above t u w (word t (nodesAt + nodeRow * k + 20))
+    (omega (arith, r .settled k h .text-end, r .text-room, used-is t sheetTextLimit (r .in-use) (omega arith)))
     (omega (arith, r .settled k h .text-end, used-is u texts e (omega (arith, r .text-room)))))
 
-module _ (s t t₀ t₁ : List ℕ) (d : t₀ ≡ setWord t textsPlace sheetTexts) (e : t₁ ≡ setWord t₀ nodesAt 0) where
+module _ (s t t₀ t₁ : List ℕ) (d : t₀ ≡ setWord t textsPlace sheetTextLimit) (e : t₁ ≡ setWord t₀ nodesAt 0) where
   first-used : Within t t₀ textsPlace (textsPlace + 4)
-  first-used = rw d (within-put t textsPlace sheetTexts)
+  first-used = rw d (within-put t textsPlace sheetTextLimit)
 
   first-row : Within t₀ t₁ nodesAt storeBytes
   first-row = rw e (within-wide nodesAt storeBytes (within-put t₀ nodesAt 0) (omega arith) (omega arith))
@@ -333,11 +333,11 @@ module _ (s t t₀ t₁ : List ℕ) (d : t₀ ≡ setWord t textsPlace sheetText
     unfolding nodesOf
     nodes-are = rw (count-is, cap-le count nodeLimit few) (rows-same (nodeIn u₂) (nodeIn u) count (node-above u u₂ header count (a .kids) texts (a .rows) texts-are))
 
-    text-fits : (n : ℕ) → n < count → word u₂ (nodesAt + 24 * n + 20) + 4 + word u₂ (textsAt + word u₂ (nodesAt + 24 * n + 20)) ≤ word u₂ textsPlace
+    text-fits : (n : ℕ) → n < count → word u₂ (nodesAt + nodeRow * n + 20) + 4 + word u₂ (textsAt + word u₂ (nodesAt + nodeRow * n + 20)) ≤ word u₂ textsPlace
     text-fits n h =
         rw (
-          word-after header (nodesAt + 24 * n + 20) (omega arith),
-          word-after header (textsAt + word u (nodesAt + 24 * n + 20)) (omega arith),
+          word-after header (nodesAt + nodeRow * n + 20) (omega arith),
+          word-after header (textsAt + word u (nodesAt + nodeRow * n + 20)) (omega arith),
           texts-are,
         )
         (a .rows .settled n h .text-end)

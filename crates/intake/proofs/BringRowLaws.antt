@@ -12,21 +12,21 @@ use Rattle.words.specs.Runs.{run}
 use Rattle.words.specs.Words.{word, number, setWord}
 use Rattle.sheet.specs.Nodes.{nodeOf}
 use Rattle.sheet.specs.declared.nodes.Node as row
-use Rattle.layout.specs.Layout.{Long, storeBytes, textsPlace, nodesAt, kidsAt, textsAt, nodeLimit, kidLimit}
+use Rattle.layout.specs.Layout.{nodeLimit, kidLimit, sheetTextLimit, nodeRow, textsPlace, nodesAt, kidsAt, textsAt, storeBytes, Long}
 use Rattle.layout.specs.Rows.{rowsFrom, marked, setAll}
 use Rattle.layout.specs.Texts.{textsUsed, textIn}
 use Rattle.layout.specs.Nodes.{kidIn, firstKid, nodeIn}
-use Rattle.intake.specs.Bring.{Within, sheetTexts, kidsIn, KidsIn, KidsOver, KidsBrought, textFrom, TextBrought, TextOver, TextIn, Settled, Rows, RowPut, RowIn, RowOver}
+use Rattle.intake.specs.Bring.{Within, kidsIn, KidsIn, KidsOver, KidsBrought, textFrom, TextBrought, TextOver, TextIn, Settled, Rows, RowPut, RowIn, RowOver}
 use Rattle.intake.specs.declared.bring.Front.{Front}
 use Rattle.intake.specs.declared.bring.Room.{Room}
 use Rattle.intake.specs.declared.bring.Room.the-variants as room
 use Rattle.layout.proofs.RowLaws.{cap-le, rows-same, rows-more, between-same}
 use Rattle.layout.proofs.WriteLaws.{Small, all-is}
 use Rattle.intake.proofs.WithinLaws.{within-wide, within-then, within-all, word-before, word-after, text-same}
-use Rattle.intake.proofs.TextLaws.{used-is, text-in}
+use Rattle.texts.proofs.ReadLaws.{used-is, text-in}
 
 -- ---- the words of a row, as the code writes them
-next-row : (k : ℕ) → nodesAt + 24 * (k + 1) ≡ nodesAt + 24 * k + 24
+next-row : (k : ℕ) → nodesAt + nodeRow * (k + 1) ≡ nodesAt + nodeRow * k + 24
 next-row k = omega arith
 
 six-words : (s s₁ s₂ s₃ s₄ s₅ u : List ℕ) (at a b c d e f : ℕ)
@@ -42,20 +42,20 @@ six-words s s₁ s₂ s₃ s₄ s₅ u at a b c d e f e₁ e₂ e₃ e₄ e₅ e
     rw (e₆, e₅, e₄, e₃, e₂, e₁, z₁, z₂, z₃, z₄, z₅)
 
 module _ (s s₁ s₂ s₃ s₄ s₅ u : List ℕ) (i a b c d e f : ℕ) (long : Long s) (h : i < nodeLimit) (small : Small (a ∷ b ∷ c ∷ d ∷ e ∷ f ∷ []))
-    (e₁ : s₁ ≡ setWord s (nodesAt + 24 * i + 4) a) (e₂ : s₂ ≡ setWord s₁ (nodesAt + 24 * i + 8) b) (e₃ : s₃ ≡ setWord s₂ (nodesAt + 24 * i + 12) c)
-    (e₄ : s₄ ≡ setWord s₃ (nodesAt + 24 * i + 16) d) (e₅ : s₅ ≡ setWord s₄ (nodesAt + 24 * i + 20) e) (e₆ : u ≡ setWord s₅ (nodesAt + 24 * i + 24) f) where
-  all : u ≡ setAll s (nodesAt + 24 * i + 4) (a ∷ b ∷ c ∷ d ∷ e ∷ f ∷ [])
-  all = six-words s s₁ s₂ s₃ s₄ s₅ u (nodesAt + 24 * i) a b c d e f e₁ e₂ e₃ e₄ e₅ e₆
+    (e₁ : s₁ ≡ setWord s (nodesAt + nodeRow * i + 4) a) (e₂ : s₂ ≡ setWord s₁ (nodesAt + nodeRow * i + 8) b) (e₃ : s₃ ≡ setWord s₂ (nodesAt + nodeRow * i + 12) c)
+    (e₄ : s₄ ≡ setWord s₃ (nodesAt + nodeRow * i + 16) d) (e₅ : s₅ ≡ setWord s₄ (nodesAt + nodeRow * i + 20) e) (e₆ : u ≡ setWord s₅ (nodesAt + nodeRow * i + 24) f) where
+  all : u ≡ setAll s (nodesAt + nodeRow * i + 4) (a ∷ b ∷ c ∷ d ∷ e ∷ f ∷ [])
+  all = six-words s s₁ s₂ s₃ s₄ s₅ u (nodesAt + nodeRow * i) a b c d e f e₁ e₂ e₃ e₄ e₅ e₆
 
-  at-word : (k p v : ℕ) → k < 6 → nodesAt + 24 * i + 4 + 4 * k ≡ p → getD (a ∷ b ∷ c ∷ d ∷ e ∷ f ∷ []) k 0 ≡ v → word u p ≡ v
+  at-word : (k p v : ℕ) → k < 6 → nodesAt + nodeRow * i + 4 + 4 * k ≡ p → getD (a ∷ b ∷ c ∷ d ∷ e ∷ f ∷ []) k 0 ≡ v → word u p ≡ v
   at-word k p v l q z =
-      ap (word u) (sym q) ∙ ap (λ (x : List ℕ). word x (nodesAt + 24 * i + 4 + 4 * k)) all
-      ∙ all-is s (nodesAt + 24 * i + 4) (a ∷ b ∷ c ∷ d ∷ e ∷ f ∷ []) small (omega arith) k l ∙ z
+      ap (word u) (sym q) ∙ ap (λ (x : List ℕ). word x (nodesAt + nodeRow * i + 4 + 4 * k)) all
+      ∙ all-is s (nodesAt + nodeRow * i + 4) (a ∷ b ∷ c ∷ d ∷ e ∷ f ∷ []) small (omega arith) k l ∙ z
 
   pub row-put : RowPut s u i a b c d e f
   row-put =
       record {
-        wrote = rw all (within-wide (nodesAt + 24 * i + 4) (nodesAt + 24 * i + 28) (within-all s (nodesAt + 24 * i + 4) (a ∷ b ∷ c ∷ d ∷ e ∷ f ∷ [])) (omega arith) (omega arith));
+        wrote = rw all (within-wide (nodesAt + nodeRow * i + 4) (nodesAt + nodeRow * i + 28) (within-all s (nodesAt + nodeRow * i + 4) (a ∷ b ∷ c ∷ d ∷ e ∷ f ∷ [])) (omega arith) (omega arith));
         kind = at-word 0 _ _ (omega arith) (omega arith) refl;
         from = at-word 1 _ _ (omega arith) (omega arith) refl;
         to = at-word 2 _ _ (omega arith) (omega arith) refl;
@@ -65,7 +65,7 @@ module _ (s s₁ s₂ s₃ s₄ s₅ u : List ℕ) (i a b c d e f : ℕ) (long :
       }
 
 -- ---- a node that is as it was
-begins : (t u : List ℕ) (i : ℕ) → word u (nodesAt + 24 * i) ≡ word t (nodesAt + 24 * i) → firstKid u i ≡ firstKid t i
+begins : (t u : List ℕ) (i : ℕ) → word u (nodesAt + nodeRow * i) ≡ word t (nodesAt + nodeRow * i) → firstKid u i ≡ firstKid t i
 unfolding firstKid
 begins t u i e = rw e
 
@@ -74,14 +74,14 @@ unfolding kidIn
 between t u i j h = between-same (kidIn u) (kidIn t) i j (λ k a b. ap marked (h k a b))
 
 pub node-same : (t u : List ℕ) (k : ℕ)
-    → ((d : ℕ) → d ≤ 24 → word u (nodesAt + 24 * k + d) ≡ word t (nodesAt + 24 * k + d))
+    → ((d : ℕ) → d ≤ 24 → word u (nodesAt + nodeRow * k + d) ≡ word t (nodesAt + nodeRow * k + d))
     → ((j : ℕ) → j < firstKid t (k + 1) → word u (kidsAt + 4 * j) ≡ word t (kidsAt + 4 * j))
-    → textIn u (word t (nodesAt + 24 * k + 20)) ≡ textIn t (word t (nodesAt + 24 * k + 20)) → nodeIn u k ≡ nodeIn t k
+    → textIn u (word t (nodesAt + nodeRow * k + 20)) ≡ textIn t (word t (nodesAt + nodeRow * k + 20)) → nodeIn u k ≡ nodeIn t k
 unfolding nodeIn
 node-same t u k w kids text =
-    let z : nodesAt + 24 * k + 0 ≡ nodesAt + 24 * k = omega arith in
-    let w₀ : word u (nodesAt + 24 * k) ≡ word t (nodesAt + 24 * k) = rw z at (w 0 (omega arith)) in
-    let w₆ : word u (nodesAt + 24 * (k + 1)) ≡ word t (nodesAt + 24 * (k + 1)) = rw (next-row k) (w 24 (omega arith)) in
+    let z : nodesAt + nodeRow * k + 0 ≡ nodesAt + nodeRow * k = omega arith in
+    let w₀ : word u (nodesAt + nodeRow * k) ≡ word t (nodesAt + nodeRow * k) = rw z at (w 0 (omega arith)) in
+    let w₆ : word u (nodesAt + nodeRow * (k + 1)) ≡ word t (nodesAt + nodeRow * (k + 1)) = rw (next-row k) (w 24 (omega arith)) in
     rw (
       w 4 (omega arith),
       w 8 (omega arith),
@@ -97,7 +97,7 @@ node-same t u k w kids text =
 -- ---- what is appended leaves what was there
 record Keeps (t u : List ℕ) (i ks ts : ℕ) : Type 0 where
   used : word u textsPlace ≡ word t textsPlace
-  rows : (j : ℕ) → nodesAt ≤ j → j ≤ nodesAt + 24 * i → word u j ≡ word t j
+  rows : (j : ℕ) → nodesAt ≤ j → j ≤ nodesAt + nodeRow * i → word u j ≡ word t j
   kids : (j : ℕ) → j < ks → word u (kidsAt + 4 * j) ≡ word t (kidsAt + 4 * j)
   texts : (j n : ℕ) → textsAt ≤ j → j + n ≤ textsAt + ts → run u j n ≡ run t j n
 
@@ -129,7 +129,7 @@ module _ {t u : List ℕ} {i kids texts : ℕ} (b : i < nodeLimit) (c : kids ≤
         texts = λ j n l k. w .other j n (inl (omega arith));
       }
 
-  by-row : {hi : ℕ} → Within t u (nodesAt + 24 * i + 4) hi → hi ≤ kidsAt → Keeps t u i kids texts
+  by-row : {hi : ℕ} → Within t u (nodesAt + nodeRow * i + 4) hi → hi ≤ kidsAt → Keeps t u i kids texts
   by-row w h =
       record {
         used = word-before w textsPlace (omega arith);
@@ -140,11 +140,11 @@ module _ {t u : List ℕ} {i kids texts : ℕ} (b : i < nodeLimit) (c : kids ≤
 
 module _ {t u : List ℕ} {i kids texts : ℕ} (r : Rows t i kids texts) (p : Keeps t u i kids texts) (k : ℕ) (h : k < i) where
   its-text : ℕ
-  its-text = word t (nodesAt + 24 * k + 20)
+  its-text = word t (nodesAt + nodeRow * k + 20)
 
-  same-text : word u (nodesAt + 24 * k + 20) ≡ its-text
+  same-text : word u (nodesAt + nodeRow * k + 20) ≡ its-text
   unfolding its-text
-  same-text = p .rows (nodesAt + 24 * k + 20) (omega arith) (omega arith)
+  same-text = p .rows (nodesAt + nodeRow * k + 20) (omega arith) (omega arith)
 
   same-size : word u (textsAt + its-text) ≡ word t (textsAt + its-text)
   unfolding word its-text
@@ -154,8 +154,8 @@ module _ {t u : List ℕ} {i kids texts : ℕ} (r : Rows t i kids texts) (p : Ke
   unfolding firstKid its-text
   node-kept =
       let s = r .settled k h in
-      node-same t u k (λ d l. p .rows (nodesAt + 24 * k + d) (omega arith) (omega arith))
-      (λ j l. p .kids j (omega (arith, s .kids-end, cap-le (word t (nodesAt + 24 * (k + 1))) kidLimit (omega (arith, s .kids-end, r .kid-room)))))
+      node-same t u k (λ d l. p .rows (nodesAt + nodeRow * k + d) (omega arith) (omega arith))
+      (λ j l. p .kids j (omega (arith, s .kids-end, cap-le (word t (nodesAt + nodeRow * (k + 1))) kidLimit (omega (arith, s .kids-end, r .kid-room)))))
       (text-same t u its-text (p .used) same-size (p .texts (textsAt + its-text + 4) (word t (textsAt + its-text)) (omega arith) (omega (arith, s .text-end))))
 
   settled-kept : {kids₂ texts₂ : ℕ} → kids ≤ kids₂ → texts ≤ texts₂ → Settled u kids₂ texts₂ k
@@ -163,13 +163,13 @@ module _ {t u : List ℕ} {i kids texts : ℕ} (r : Rows t i kids texts) (p : Ke
   settled-kept a b =
       let s = r .settled k h in
       record {
-        kids-end = rw (p .rows (nodesAt + 24 * (k + 1)) (omega arith) (omega arith)) (omega (arith, s .kids-end));
+        kids-end = rw (p .rows (nodesAt + nodeRow * (k + 1)) (omega arith) (omega arith)) (omega (arith, s .kids-end));
         text-end = rw (same-text, same-size) (omega (arith, s .text-end));
       }
 
 -- ---- one row more
 node-new : (s t u : List ℕ) (i : ℕ) (n : row.Node) (first text last : ℕ) → RowPut t u i (n .kind) (n .from) (n .to) (n .flag) text last
-    → word u (nodesAt + 24 * i) ≡ first → first ≤ last → last ≤ kidLimit
+    → word u (nodesAt + nodeRow * i) ≡ first → first ≤ last → last ≤ kidLimit
     → rowsFrom (kidIn u) first last ≡ kidsIn s (n .kids .start) (n .kids .end)
     → textIn u text ≡ textFrom s (n .text .start) (n .text .end) → nodeIn u i ≡ nodeOf s n
 unfolding nodeIn firstKid kidsIn textFrom
@@ -193,7 +193,7 @@ module _ (s : List ℕ) (n : row.Node) (i : ℕ) (f : Front) (t t₁ t₂ u : Li
     (k : KidsIn s (n .kids .start) (n .kids .end) t t₁ (f .kids) last)
     (x : TextBrought s (n .text .start) (n .text .end) t₁ t₂ (f .texts) texts)
     (words : RowPut t₂ u i (n .kind) (n .from) (n .to) (n .flag) (f .texts) last) where
-  put : Within t₂ u (nodesAt + 24 * i + 4) (nodesAt + 24 * i + 28)
+  put : Within t₂ u (nodesAt + nodeRow * i + 4) (nodesAt + nodeRow * i + 28)
   put = words .wrote
 
   -- the rows before it
@@ -202,10 +202,10 @@ module _ (s : List ℕ) (n : row.Node) (i : ℕ) (f : Front) (t t₁ t₂ u : Li
       keeps-then b (r .kid-room) (keeps-then b (r .kid-room) (by-kids b (r .kid-room) (k .wrote) (omega (arith, k .room))) (by-text b (r .kid-room) (x .wrote)))
       (by-row b (r .kid-room) put (omega arith))
 
-  begin : word u (nodesAt + 24 * i) ≡ f .kids
+  begin : word u (nodesAt + nodeRow * i) ≡ f .kids
   begin =
-      word-before put (nodesAt + 24 * i) (omega arith) ∙ word-before (x .wrote) (nodesAt + 24 * i) (omega arith)
-      ∙ word-before (k .wrote) (nodesAt + 24 * i) (omega arith) ∙ r .here
+      word-before put (nodesAt + nodeRow * i) (omega arith) ∙ word-before (x .wrote) (nodesAt + nodeRow * i) (omega arith)
+      ∙ word-before (k .wrote) (nodesAt + nodeRow * i) (omega arith) ∙ r .here
 
   -- the last of the rows
   its-kids : rowsFrom (kidIn u) (f .kids) last ≡ kidsIn s (n .kids .start) (n .kids .end)
@@ -219,7 +219,7 @@ module _ (s : List ℕ) (n : row.Node) (i : ℕ) (f : Front) (t t₁ t₂ u : Li
   -- the text lies within the bytes in use
   its-bytes : textIn u (f .texts) ≡ textFrom s (n .text .start) (n .text .end)
   its-bytes =
-      let used : textsUsed u ≡ sheetTexts = used-is u sheetTexts (kept .used ∙ r .in-use) (omega arith) in
+      let used : textsUsed u ≡ sheetTextLimit = used-is u sheetTextLimit (kept .used ∙ r .in-use) (omega arith) in
       text-in u (f .texts) (omega (arith, used, its-size, x .count, x .room))
       ∙ ap (run u (textsAt + f .texts + 4)) its-size
       ∙ put .other (textsAt + f .texts + 4) (length (textFrom s (n .text .start) (n .text .end))) (inr (omega arith)) ∙ x .same

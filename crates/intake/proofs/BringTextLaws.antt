@@ -10,8 +10,8 @@ use Rattle.words.proofs.RunLaws.{length-run, run-splice-same}
 use Rattle.words.proofs.WordLaws.{word-setWord-same}
 use Rattle.sheet.specs.Texts.{decoded}
 use Rattle.sheet.proofs.TextLaws.{length-decoded}
-use Rattle.layout.specs.Layout.{Long, textsAt}
-use Rattle.intake.specs.Bring.{Within, sheetTexts, textFrom, TextBrought, TextOver}
+use Rattle.layout.specs.Layout.{sheetTextLimit, textsAt, Long}
+use Rattle.intake.specs.Bring.{Within, textFrom, TextBrought, TextOver}
 use Rattle.intake.proofs.WithinLaws.{within-put, within-splice, within-wide, within-then, word-before}
 
 module _ (s : List ℕ) (start end : ℕ) (o : start ≤ end) (h : end ≤ length s) where
@@ -20,10 +20,10 @@ module _ (s : List ℕ) (start end : ℕ) (o : start ≤ end) (h : end ≤ lengt
   size = length-decoded (run s start (end - start)) ∙ ap (λ (n : ℕ). n / 2) (length-run s start (end - start) (omega arith))
 
   module _ (t : List ℕ) (first n : ℕ) (e : n ≡ (end - start) / 2) where
-    pub text-over : sheetTexts < first + 4 + n → TextOver s start end t t first
+    pub text-over : sheetTextLimit < first + 4 + n → TextOver s start end t t first
     text-over k = record { over = omega (arith, size); wrote = refl }
 
-    module _ (long : Long t) (room : first + 4 + n ≤ sheetTexts) (t₁ t₂ : List ℕ) (p : t₁ ≡ setWord t (textsAt + first) n)
+    module _ (long : Long t) (room : first + 4 + n ≤ sheetTextLimit) (t₁ t₂ : List ℕ) (p : t₁ ≡ setWord t (textsAt + first) n)
         (q : t₂ ≡ splice t₁ (textsAt + first + 4) (decoded (run s start (end - start)))) where
       counted : first + 4 + n ≡ first + 4 + length (textFrom s start end)
       counted = omega (arith, size)

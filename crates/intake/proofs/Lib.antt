@@ -1,4 +1,3 @@
-pub mod TextLaws
 pub mod NodeLaws
 pub mod WithinLaws
 pub mod BringKidLaws

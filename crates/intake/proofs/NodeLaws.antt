@@ -13,7 +13,7 @@ use Rattle.spec.specs.Basics.{NodeId}
 use Rattle.spec.specs.Sheet.{Node}
 use Rattle.spec.specs.Tree.{nobody, nodeAt}
 use Rattle.spec.specs.Keys.{kind, flag, text, pointer, kid}
-use Rattle.layout.specs.Layout.{nodeCount, nodesAt, nodeLimit, kidsAt, kidLimit, absent}
+use Rattle.layout.specs.Layout.{absent, nodeLimit, kidLimit, nodeRow, nodeCount, nodesAt, kidsAt}
 use Rattle.layout.specs.Rows.{cap, rowsFrom, marked}
 use Rattle.layout.specs.Texts.{textIn}
 use Rattle.layout.specs.Nodes.{firstKid, kidIn, nodeIn, nodesOf}
@@ -39,7 +39,7 @@ module _ (s : List ℕ) where
     unfolding nodesOf nodeAt
     node-out h = getD-past (nodeIn s) (cap (word s nodeCount) nodeLimit) n nobody (omega (arith, count-is))
 
-    pub word-in : (place : ℕ) → n < length (nodesOf s) → nodeWord s n place ≡ word s (nodesAt + 24 * n + place)
+    pub word-in : (place : ℕ) → n < length (nodesOf s) → nodeWord s n place ≡ word s (nodesAt + nodeRow * n + place)
     unfolding nodeWord
     word-in place h = rw (lt-ltb n (length (nodesOf s)) h)
 
@@ -48,7 +48,7 @@ module _ (s : List ℕ) where
     word-out place h = rw (le-ltb n (length (nodesOf s)) h)
 
     -- ---- a word that is a field
-    module _ (f : Node → ℕ) (place : ℕ) (e : f (nodeIn s n) ≡ word s (nodesAt + 24 * n + place)) (z : f nobody ≡ 0) where
+    module _ (f : Node → ℕ) (place : ℕ) (e : f (nodeIn s n) ≡ word s (nodesAt + nodeRow * n + place)) (z : f nobody ≡ 0) where
       field-is : nodeWord s n place ≡ f (nodeAt (nodesOf s) n)
       field-is = go (ltb n (length (nodesOf s))) refl
         where
@@ -106,7 +106,7 @@ module _ (s : List ℕ) where
 -- ---- one kid
 first-limit : (s : List ℕ) (i : ℕ) → firstKid s i ≤ kidLimit
 unfolding firstKid
-first-limit s i = cap-lim (word s (nodesAt + 24 * i)) kidLimit
+first-limit s i = cap-lim (word s (nodesAt + nodeRow * i)) kidLimit
 
 module _ (s : List ℕ) (n i r : ℕ) (e : r ≡ length (nodeAt (nodesOf s) n .kids)) where
   pub kid-none : r ≤ i → none ≡ kid (nodesOf s) i n
@@ -117,10 +117,10 @@ module _ (s : List ℕ) (n i r : ℕ) (e : r ≡ length (nodeAt (nodesOf s) n .k
     there : n < length (nodesOf s)
     there = kid-node s n i (omega arith)
 
-    pub kid-row : n ≤ 4096
+    pub kid-row : n ≤ nodeLimit
     kid-row = omega (arith, there, count-few s)
 
-    pub kid-place : firstKid s n + i < 16384
+    pub kid-place : firstKid s n + i < kidLimit
     kid-place = omega (arith, kids-many s n (firstKid s n) (firstKid s (n + 1)) there refl refl, first-limit s (n + 1))
 
     pub kid-is : kidIn s (firstKid s n + i) ≡ kid (nodesOf s) i n
@@ -141,7 +141,7 @@ kid-number s j k e q = rw (← e, ne-eqb k absent q)
 pub count-from : (s : List ℕ) (n a b : ℕ) → a ≡ word s nodeCount → b ≡ cap a nodeLimit → ltb n b ≡ ltb n (length (nodesOf s))
 count-from s n a b p q = rw (q, p, count-is s)
 
-pub first-from : (s : List ℕ) (i a b : ℕ) → a ≡ word s (nodesAt + 24 * i) → b ≡ cap a kidLimit → b ≡ firstKid s i
+pub first-from : (s : List ℕ) (i a b : ℕ) → a ≡ word s (nodesAt + nodeRow * i) → b ≡ cap a kidLimit → b ≡ firstKid s i
 unfolding firstKid
 first-from s i a b p q = rw (q, p)
 

@@ -10,13 +10,13 @@ use Rattle.words.specs.Runs.{run}
 use Rattle.words.specs.Words.{word}
 use Rattle.spec.specs.Basics.{Text, NodeId}
 use Rattle.spec.specs.Tree.{kidPlaces}
-use Rattle.spec.proofs.TextRoom.{textBytes}
+use Rattle.spec.proofs.room.TextRoom.{textBytes}
 use Rattle.spec.specs.Sheet.{Node, Got, got, bad, kidList, allBelow, nodesFrom, nodeList, accepted, readSheet}
 use Rattle.sheet.specs.Kids.{kidsOf}
 use Rattle.sheet.specs.Texts.{decoded}
 use Rattle.sheet.specs.Nodes.{nodeOf}
 use Rattle.sheet.specs.declared.nodes.Node as row
-use Rattle.layout.specs.Layout.{storeBytes, textsPlace, nodesAt, kidsAt, textsAt, nodeLimit, kidLimit}
+use Rattle.layout.specs.Layout.{nodeLimit, kidLimit, sheetTextLimit, nodeRow, textsPlace, nodesAt, kidsAt, textsAt, storeBytes}
 use Rattle.layout.specs.Rows.{rowsTo, rowsFrom, marked}
 use Rattle.layout.specs.Changes.{Wrote}
 use Rattle.layout.specs.Regions.{bringing}
@@ -28,10 +28,6 @@ use Rattle.intake.specs.declared.bring.KidWord.the-variants as kid
 use Rattle.intake.specs.declared.bring.Front.{Front}
 use Rattle.intake.specs.declared.bring.Step.{Step}
 use Rattle.intake.specs.declared.bring.Step.the-variants as step
-
--- the bytes of the texts of a sheet: half its length at most
-abbrev pub sheetTexts : ℕ
-sheetTexts = 524288
 
 -- t is s, written over from lo to hi alone: what `Wrote` says of words, of runs of any length, for the texts
 pub record Within (s t : List ℕ) (lo hi : ℕ) : Type 0 where
@@ -81,13 +77,13 @@ textFrom s start end = decoded (run s start (end - start))
 
 pub record TextBrought (s : List ℕ) (start end : ℕ) (t u : List ℕ) (first last : ℕ) : Type 0 where
   pub count : last ≡ first + 4 + length (textFrom s start end)
-  pub room : last ≤ sheetTexts
+  pub room : last ≤ sheetTextLimit
   pub wrote : Within t u (textsAt + first) (textsAt + last)
   pub size : word u (textsAt + first) ≡ length (textFrom s start end)
   pub same : run u (textsAt + first + 4) (length (textFrom s start end)) ≡ textFrom s start end
 
 pub record TextOver (s : List ℕ) (start end : ℕ) (t u : List ℕ) (first : ℕ) : Type 0 where
-  pub over : sheetTexts < first + 4 + length (textFrom s start end)
+  pub over : sheetTextLimit < first + 4 + length (textFrom s start end)
   pub wrote : u ≡ t
 
 abbrev pub TextIn : List ℕ → ℕ → ℕ → List ℕ → List ℕ → ℕ → Room → Type 0
@@ -97,26 +93,26 @@ TextIn s start end t u first room.Full = TextOver s start end t u first
 -- ---- rows
 -- the kids and the text of a row lie below the places where the next ones will
 pub record Settled (t : List ℕ) (kids texts k : ℕ) : Type 0 where
-  pub kids-end : word t (nodesAt + 24 * (k + 1)) ≤ kids
-  pub text-end : word t (nodesAt + 24 * k + 20) + 4 + word t (textsAt + word t (nodesAt + 24 * k + 20)) ≤ texts
+  pub kids-end : word t (nodesAt + nodeRow * (k + 1)) ≤ kids
+  pub text-end : word t (nodesAt + nodeRow * k + 20) + 4 + word t (textsAt + word t (nodesAt + nodeRow * k + 20)) ≤ texts
 
 -- so many rows are written, and the next one's kids and text will begin at these places; meanwhile all bytes that the texts may take are in use
 pub record Rows (t : List ℕ) (i kids texts : ℕ) : Type 0 where
-  pub in-use : word t textsPlace ≡ sheetTexts
-  pub here : word t (nodesAt + 24 * i) ≡ kids
+  pub in-use : word t textsPlace ≡ sheetTextLimit
+  pub here : word t (nodesAt + nodeRow * i) ≡ kids
   pub kid-room : kids ≤ kidLimit
-  pub text-room : texts ≤ sheetTexts
+  pub text-room : texts ≤ sheetTextLimit
   pub settled : (k : ℕ) → k < i → Settled t kids texts k
 
 -- the words of the row i after its first one, and the first word of the next row
 pub record RowPut (t u : List ℕ) (i a b c d e f : ℕ) : Type 0 where
-  pub wrote : Within t u (nodesAt + 24 * i + 4) (nodesAt + 24 * i + 28)
-  pub kind : word u (nodesAt + 24 * i + 4) ≡ a
-  pub from : word u (nodesAt + 24 * i + 8) ≡ b
-  pub to : word u (nodesAt + 24 * i + 12) ≡ c
-  pub flag : word u (nodesAt + 24 * i + 16) ≡ d
-  pub text : word u (nodesAt + 24 * i + 20) ≡ e
-  pub next : word u (nodesAt + 24 * (i + 1)) ≡ f
+  pub wrote : Within t u (nodesAt + nodeRow * i + 4) (nodesAt + nodeRow * i + 28)
+  pub kind : word u (nodesAt + nodeRow * i + 4) ≡ a
+  pub from : word u (nodesAt + nodeRow * i + 8) ≡ b
+  pub to : word u (nodesAt + nodeRow * i + 12) ≡ c
+  pub flag : word u (nodesAt + nodeRow * i + 16) ≡ d
+  pub text : word u (nodesAt + nodeRow * i + 20) ≡ e
+  pub next : word u (nodesAt + nodeRow * (i + 1)) ≡ f
 
 -- where the kids and the text of a node stand in the sheet
 pub record Spans (s : List ℕ) (n : row.Node) : Type 0 where
@@ -134,7 +130,7 @@ pub record RowIn (s : List ℕ) (n : row.Node) (t u : List ℕ) (i : ℕ) (f g :
   pub wrote : Within t u nodesAt storeBytes
 
 pub record RowOver (s : List ℕ) (n : row.Node) (t u : List ℕ) (f : Front) : Type 0 where
-  pub over : (kidLimit < f .kids + length (nodeOf s n .kids)) ⊎ (sheetTexts < f .texts + 4 + length (nodeOf s n .text))
+  pub over : (kidLimit < f .kids + length (nodeOf s n .kids)) ⊎ (sheetTextLimit < f .texts + 4 + length (nodeOf s n .text))
   pub wrote : Within t u nodesAt storeBytes
 
 abbrev pub RowBrought : List ℕ → row.Node → List ℕ → List ℕ → ℕ → Front → Step → Type 0
@@ -197,8 +193,8 @@ pub record Holds (ns : List Node) (t : List ℕ) (r : Bool) : Type 0 where
   pub told : r ≡ true
   pub nodes : nodesOf t ≡ ns
   pub used : word t textsPlace ≡ textBytes ns
-  pub texts : word t textsPlace ≤ sheetTexts
-  pub fits : (n : ℕ) → n < length ns → word t (nodesAt + 24 * n + 20) + 4 + word t (textsAt + word t (nodesAt + 24 * n + 20)) ≤ word t textsPlace
+  pub texts : word t textsPlace ≤ sheetTextLimit
+  pub fits : (n : ℕ) → n < length ns → word t (nodesAt + nodeRow * n + 20) + 4 + word t (textsAt + word t (nodesAt + nodeRow * n + 20)) ≤ word t textsPlace
 
 -- What bringing a sheet's nodes in does to a store, whatever the sheet; and that it brings all of them in, where the sheet is accepted and there is room for the kids.
 pub record Brought (s t u : List ℕ) (r : Bool) : Type 0 where

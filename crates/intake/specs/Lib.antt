@@ -1,3 +1,2 @@
-pub mod TextReads
 pub mod NodeReads
 pub mod Bring

@@ -2,21 +2,23 @@
 // before it, so that what was brought stays as it is.
 ghost use Prim.Native.Nat.{_<_, _≤_};
 ghost use lib.ListN.{length};
-ghost use Rattle.layout.specs.Layout.{Long};
+ghost use Rattle.layout.specs.Layout.{nodeLimit, kidLimit, sheetTextLimit, Long};
 ghost use Rattle.intake.specs.Bring.{Kids, KidRead, KidsBrought, TextIn, Rows, RowPut, Spans, RowBrought, Bringing, NodeBrought, Counted, AllBrought, Brought};
-use crate::nodes::ABSENT;
 use crate::nodes::FLAG;
 use crate::nodes::FROM;
-use crate::nodes::KID_LIMIT;
-use crate::nodes::KIDS_AT;
 use crate::nodes::KIND;
-use crate::nodes::NODE_COUNT;
-use crate::nodes::NODES_AT;
-use crate::nodes::ROW;
 use crate::nodes::TEXT;
 use crate::nodes::TO;
-use crate::texts::TEXTS_AT;
-use crate::texts::TEXTS_PLACE;
+use layout::tables::ABSENT;
+use layout::tables::KID_LIMIT;
+use layout::tables::KIDS;
+use layout::tables::NODE_COUNT;
+use layout::tables::NODE_LIMIT;
+use layout::tables::NODE_ROW;
+use layout::tables::NODES;
+use layout::tables::SHEET_TEXT_LIMIT;
+use layout::tables::TEXTS;
+use layout::tables::TEXTS_PLACE;
 use sheet::Fault;
 use sheet::KidStep;
 use sheet::Node;
@@ -26,10 +28,6 @@ use sheet::Position;
 use sheet::decode_text;
 use sheet::next_kid;
 use words::put32;
-
-// A byte of text takes two digits in the sheet, and the lines of a node have more than eight bytes besides. So the
-// texts of a sheet of 1,048,576 bytes, with the four bytes of each one's length, take at most half of that.
-const SHEET_TEXTS: usize = 524288;
 
 // How many places are in use; or there are not enough of them.
 enum Room {
@@ -71,7 +69,7 @@ fn kid_word(sheet: &[u8], at: usize, end: usize) -> KidWord
 
 // The kids of a list, from the place `kids` on.
 fn bring_kids(sheet: &[u8], start: usize, end: usize, kids: u32, store: &mut [u8]) -> Room
-    requires { ⌜ Long (now store) × (Kids (now sheet) start end × (kids ≤ 16384)) ⌝ }
+    requires { ⌜ Long (now store) × (Kids (now sheet) start end × (kids ≤ kidLimit)) ⌝ }
     ensures { λ r. ⌜ KidsBrought (now (sheet .entry)) start end (now (store .entry)) (now (store .exit)) kids r ⌝ }
 {
     let mut at = start;
@@ -85,7 +83,7 @@ fn bring_kids(sheet: &[u8], start: usize, end: usize, kids: u32, store: &mut [u8
                 if used == KID_LIMIT {
                     return Room::Full;
                 }
-                put32(store, KIDS_AT + 4 * (used as usize), word);
+                put32(store, KIDS + 4 * (used as usize), word);
                 at = next;
                 used += 1;
             }
@@ -95,36 +93,36 @@ fn bring_kids(sheet: &[u8], start: usize, end: usize, kids: u32, store: &mut [u8
 
 // A text: its length, and its bytes after that.
 fn bring_text(sheet: &[u8], start: usize, end: usize, texts: u32, store: &mut [u8]) -> Room
-    requires { ⌜ Long (now store) × ((start ≤ end) × ((end ≤ length (now sheet)) × (texts ≤ 524288))) ⌝ }
+    requires { ⌜ Long (now store) × ((start ≤ end) × ((end ≤ length (now sheet)) × (texts ≤ sheetTextLimit))) ⌝ }
     ensures { λ r. ⌜ TextIn (now (sheet .entry)) start end (now (store .entry)) (now (store .exit)) texts r ⌝ }
 {
     let n = (end - start) / 2;
     let first = texts as usize;
-    if SHEET_TEXTS < first + 4 + n {
+    if SHEET_TEXT_LIMIT < first + 4 + n {
         return Room::Full;
     }
-    put32(store, TEXTS_AT + first, n as u32);
-    decode_text(sheet, start, end, store, TEXTS_AT + first + 4);
+    put32(store, TEXTS + first, n as u32);
+    decode_text(sheet, start, end, store, TEXTS + first + 4);
     Room::Upto((first + 4 + n) as u32)
 }
 
 // The row i after its first word, which is there already, and the first word of the next row.
 fn put_row(store: &mut [u8], i: u32, kind: u32, from: u32, to: u32, flag: u32, text: u32, end: u32)
-    requires { ⌜ Long (now store) × (i < 4096) ⌝ }
+    requires { ⌜ Long (now store) × (i < nodeLimit) ⌝ }
     ensures { λ _. ⌜ RowPut (now (store .entry)) (now (store .exit)) i kind from to flag text end ⌝ }
 {
-    let row = NODES_AT + ROW * (i as usize);
+    let row = NODES + NODE_ROW * (i as usize);
     put32(store, row + KIND, kind);
     put32(store, row + FROM, from);
     put32(store, row + TO, to);
     put32(store, row + FLAG, flag);
     put32(store, row + TEXT, text);
-    put32(store, row + ROW, end);
+    put32(store, row + NODE_ROW, end);
 }
 
 // The node i: its kids, its text, and last its row.
 fn bring_row(sheet: &[u8], i: u32, node: Node, front: Front, store: &mut [u8]) -> Step
-    requires { ⌜ Long (now store) × ((i < 4096) × (Spans (now sheet) node × Rows (now store) i (front .kids) (front .texts))) ⌝ }
+    requires { ⌜ Long (now store) × ((i < nodeLimit) × (Spans (now sheet) node × Rows (now store) i (front .kids) (front .texts))) ⌝ }
     ensures { λ r. ⌜ RowBrought (now (sheet .entry)) node (now (store .entry)) (now (store .exit)) i front r ⌝ }
 {
     let kids = node.kids;
@@ -157,7 +155,7 @@ fn bring_row(sheet: &[u8], i: u32, node: Node, front: Front, store: &mut [u8]) -
 
 // The node i of `nodes`, read at the front's place.
 fn bring_node(sheet: &[u8], nodes: u32, i: u32, front: Front, store: &mut [u8]) -> Step
-    requires { ⌜ Long (now store) × ((nodes ≤ 4096) × ((i < nodes) × Bringing (now sheet) nodes i front (now store))) ⌝ }
+    requires { ⌜ Long (now store) × ((nodes ≤ nodeLimit) × ((i < nodes) × Bringing (now sheet) nodes i front (now store))) ⌝ }
     ensures { λ r. ⌜ NodeBrought (now (sheet .entry)) nodes i (now (store .entry)) (now (store .exit)) r ⌝ }
 {
     let here = front.next;
@@ -169,7 +167,7 @@ fn bring_node(sheet: &[u8], nodes: u32, i: u32, front: Front, store: &mut [u8]) 
 
 // All nodes, and how many bytes their texts take.
 fn bring_all(sheet: &[u8], nodes: u32, first: Front, store: &mut [u8]) -> Room
-    requires { ⌜ Long (now store) × ((nodes ≤ 4096) × Bringing (now sheet) nodes 0 first (now store)) ⌝ }
+    requires { ⌜ Long (now store) × ((nodes ≤ nodeLimit) × Bringing (now sheet) nodes 0 first (now store)) ⌝ }
     ensures { λ r. ⌜ AllBrought (now (sheet .entry)) nodes (now (store .entry)) (now (store .exit)) r ⌝ }
 {
     let mut front = first;
@@ -195,8 +193,8 @@ fn bring_counted(sheet: &[u8], nodes: u32, next: Position, store: &mut [u8]) -> 
     requires { ⌜ Long (now store) × Counted (now sheet) nodes (next .at) ⌝ }
     ensures { λ r. ⌜ Brought (now (sheet .entry)) (now (store .entry)) (now (store .exit)) r ⌝ }
 {
-    put32(store, TEXTS_PLACE, SHEET_TEXTS as u32);
-    put32(store, NODES_AT, 0);
+    put32(store, TEXTS_PLACE, SHEET_TEXT_LIMIT as u32);
+    put32(store, NODES, 0);
     let first = Front {
         next,
         kids: 0,
@@ -219,7 +217,7 @@ pub fn bring_nodes(sheet: &[u8], store: &mut [u8]) -> bool
     ensures { λ r. ⌜ Brought (now (sheet .entry)) (now (store .entry)) (now (store .exit)) r ⌝ }
 {
     let start = Position::first();
-    match start.number(sheet, b"nodes=", Fault::WrongCount, 1, 4096) {
+    match start.number(sheet, b"nodes=", Fault::WrongCount, 1, NODE_LIMIT) {
         NumberRead::Bad(_, _) => false,
         NumberRead::Value(nodes, first) => bring_counted(sheet, nodes, first, store),
     }

@@ -1,7 +1,6 @@
 // What a load brings in first and then only reads: the texts and the nodes of a sheet.
 mod bring;
 mod nodes;
-mod texts;
 
 pub use bring::bring_nodes;
 pub use nodes::kid;
@@ -10,8 +9,3 @@ pub use nodes::node_flag;
 pub use nodes::node_kind;
 pub use nodes::node_pointer;
 pub use nodes::node_text;
-pub use texts::compare_texts;
-pub use texts::text_byte;
-pub use texts::text_is;
-pub use texts::text_length;
-pub use texts::texts_equal;

@@ -6,27 +6,24 @@ ghost use lib.ListN.{length};
 ghost use lib.Dec.{ltb};
 ghost use Rattle.spec.specs.Tree.{nodeAt};
 ghost use Rattle.spec.specs.Keys.{kind, flag, text, pointer, kid};
-ghost use Rattle.layout.specs.Layout.{Long};
+ghost use Rattle.layout.specs.Layout.{nodeLimit, kidLimit, Long};
 ghost use Rattle.layout.specs.Texts.{textIn};
 ghost use Rattle.layout.specs.Nodes.{firstKid, kidIn, nodesOf};
 ghost use Rattle.intake.specs.NodeReads.{nodeWord};
 ghost use Rattle.module.specs.Ids.{nodeOf, pointerOf};
 use layout::at_most;
+use layout::tables::ABSENT;
+use layout::tables::KID_LIMIT;
+use layout::tables::KIDS;
+use layout::tables::NODE_COUNT;
+use layout::tables::NODE_LIMIT;
+use layout::tables::NODE_ROW;
+use layout::tables::NODES;
 use module::MaybeNode;
 use module::NodeId;
 use module::Pointer;
 use module::TextId;
 use words::get32;
-
-// The count of nodes, their rows and their kids.
-pub const NODE_COUNT: usize = 2998372;
-
-pub const NODES_AT: usize = 2998376;
-
-pub const KIDS_AT: usize = 3096704;
-
-// A row: its length, and the places of its words after the first one.
-pub const ROW: usize = 24;
 
 pub const KIND: usize = 4;
 
@@ -37,13 +34,6 @@ pub const TO: usize = 12;
 pub const FLAG: usize = 16;
 
 pub const TEXT: usize = 20;
-
-const NODE_LIMIT: u32 = 4096;
-
-pub const KID_LIMIT: u32 = 16384;
-
-// The mark for what is absent.
-pub const ABSENT: u32 = 4294967295;
 
 fn has_node(store: &[u8], n: NodeId) -> bool
     requires { ⌜ Long (now store) ⌝ }
@@ -58,7 +48,7 @@ fn node_word(store: &[u8], n: NodeId, place: usize) -> u32
     ensures { λ r. ⌜ r ≡ nodeWord (now (store .entry)) (n .0) place ⌝ }
 {
     if has_node(store, n) {
-        return get32(store, NODES_AT + ROW * (n.0 as usize) + place);
+        return get32(store, NODES + NODE_ROW * (n.0 as usize) + place);
     }
     0
 }
@@ -100,10 +90,10 @@ pub fn node_text(store: &[u8], n: NodeId) -> TextId
 
 // Where the kids of the row i begin, which is where those of the row before it end.
 fn first_kid(store: &[u8], i: u32) -> u32
-    requires { ⌜ Long (now store) × (i ≤ 4096) ⌝ }
+    requires { ⌜ Long (now store) × (i ≤ nodeLimit) ⌝ }
     ensures { λ r. ⌜ r ≡ firstKid (now (store .entry)) i ⌝ }
 {
-    at_most(get32(store, NODES_AT + ROW * (i as usize)), KID_LIMIT)
+    at_most(get32(store, NODES + NODE_ROW * (i as usize)), KID_LIMIT)
 }
 
 pub fn kid_count(store: &[u8], n: NodeId) -> u32
@@ -123,10 +113,10 @@ pub fn kid_count(store: &[u8], n: NodeId) -> u32
 
 // The kid at a place of the kids.
 fn kid_at(store: &[u8], at: u32) -> MaybeNode
-    requires { ⌜ Long (now store) × (at < 16384) ⌝ }
+    requires { ⌜ Long (now store) × (at < kidLimit) ⌝ }
     ensures { λ r. ⌜ nodeOf r ≡ kidIn (now (store .entry)) at ⌝ }
 {
-    let k = get32(store, KIDS_AT + 4 * (at as usize));
+    let k = get32(store, KIDS + 4 * (at as usize));
     if k == ABSENT {
         return MaybeNode::Absent;
     }

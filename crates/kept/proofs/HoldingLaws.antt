@@ -12,7 +12,7 @@ use Rattle.words.specs.Words.{word}
 use Rattle.spec.specs.Basics.{if_then_else_}
 use Rattle.spec.specs.Scopes.{ScopeKind, definitions, withExpr, isIn, holds, holderFrom, holder}
 use Rattle.spec.specs.Answer.{scopeAt}
-use Rattle.layout.specs.Layout.{scopeCount, scopesAt, enteredAt, nameLimit, scopeLimit}
+use Rattle.layout.specs.Layout.{nameLimit, scopeLimit, scopeRow, scopeCount, scopesAt, enteredAt}
 use Rattle.layout.specs.Rows.{cap, rowsTo, rowsFrom}
 use Rattle.layout.specs.Keeps.{firstEntered, enteredOf, scopeIn, scopesIn}
 use Rattle.kept.specs.Walks.{namesEntered}
@@ -45,28 +45,28 @@ unfolding holds isIn namesEntered
 holds-names x (definitions xs) = refl
 holds-names x (withExpr e) = refl
 
-names-are : (s : List ℕ) (i : ℕ) → NamesAt s i ≡ rowsTo (enteredFrom s (cap (word s (scopesAt + 12 * i)) nameLimit)) (length (NamesAt s i))
+names-are : (s : List ℕ) (i : ℕ) → NamesAt s i ≡ rowsTo (enteredFrom s (cap (word s (scopesAt + scopeRow * i)) nameLimit)) (length (NamesAt s i))
 unfolding enteredFrom enteredOf rowsFrom firstEntered
 names-are s i = go (ltb i (cap (word s scopeCount) scopeLimit)) refl
   where
     f : ℕ → ℕ
-    f = λ k. word s (enteredAt + 4 * (cap (word s (scopesAt + 12 * i)) nameLimit + k))
+    f = λ k. word s (enteredAt + 4 * (cap (word s (scopesAt + scopeRow * i)) nameLimit + k))
 
     empty : NamesAt s i ≡ [] → NamesAt s i ≡ rowsTo f (length (NamesAt s i))
     empty e = rw e (sym (rows-none f))
 
-    kinds : i < cap (word s scopeCount) scopeLimit → (w : ℕ) → word s (scopesAt + 12 * i + 8) ≡ w → NamesAt s i ≡ rowsTo f (length (NamesAt s i))
+    kinds : i < cap (word s scopeCount) scopeLimit → (w : ℕ) → word s (scopesAt + scopeRow * i + 8) ≡ w → NamesAt s i ≡ rowsTo f (length (NamesAt s i))
     kinds l zero z =
-        let e : scopesAt + 12 * (i + 1) ≡ scopesAt + 12 * i + 12 = omega arith in
+        let e : scopesAt + scopeRow * (i + 1) ≡ scopesAt + scopeRow * i + 12 = omega arith in
         rw (own-names s i l z, length-entered s i, e)
     kinds l (suc w) z = empty (with-names s i l (λ y. omega arith))
 
     go : (b : Bool) → ltb i (cap (word s scopeCount) scopeLimit) ≡ b → NamesAt s i ≡ rowsTo f (length (NamesAt s i))
-    go true e = kinds (ltb-true i (cap (word s scopeCount) scopeLimit) e) (word s (scopesAt + 12 * i + 8)) refl
+    go true e = kinds (ltb-true i (cap (word s scopeCount) scopeLimit) e) (word s (scopesAt + scopeRow * i + 8)) refl
     go false e = empty (no-names s i (ltb-false i (cap (word s scopeCount) scopeLimit) e))
 
 -- whether a scope holds x is whether x is among its names from the i-th on
-pub names-begun : (s : List ℕ) (x k n from : ℕ) → n ≡ length (NamesAt s k) → from ≡ cap (word s (scopesAt + 12 * k)) nameLimit → holds x (scopeAt (scopesIn s .scopes) k .kind) ≡ isIn x (rowsFrom (enteredFrom s from) 0 n)
+pub names-begun : (s : List ℕ) (x k n from : ℕ) → n ≡ length (NamesAt s k) → from ≡ cap (word s (scopesAt + scopeRow * k)) nameLimit → holds x (scopeAt (scopesIn s .scopes) k .kind) ≡ isIn x (rowsFrom (enteredFrom s from) 0 n)
 names-begun s x k n from e q =
     let a : NamesAt s k ≡ rowsTo (enteredFrom s from) n = rw (e, q) (names-are s k) in
     holds-names x (scopeAt (scopesIn s .scopes) k .kind) ∙ ap (isIn x) (a ∙ between-all (enteredFrom s from) n)

@@ -5,10 +5,7 @@ pub mod ScopeLaws
 pub mod KeepFrames
 pub mod AnswerLaws
 pub mod ReferenceLaws
-pub mod ChangedTextLaws
-pub mod UseLaws
 pub mod ChangeLaws
 pub mod TextFrames
-pub mod WalkSteps
 pub mod ScopesFitLaws
 pub mod SoundChanges

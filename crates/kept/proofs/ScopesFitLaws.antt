@@ -3,6 +3,7 @@ use mathlib.Core.Path.{_≡_, refl, sym, ap, _∙_}
 use mathlib.Core.Bool.{Bool, true, false}
 use mathlib.Core.List.{List, [], _∷_}
 use mathlib.Core.Option.{Option, none, some}
+use mathlib.Mathlib.Data.Bool.Basic.{and-intro}
 use Prim.Native.Nat.{ℕ, zero, suc, _+_, _-_, _*_, _≤_, _<_}
 use native.Mathlib.Omega.{arith}
 use lib.ListN.{length, getD}
@@ -12,17 +13,17 @@ use Rattle.words.specs.Words.{word}
 use Rattle.spec.specs.Basics.{ExprId, ScopeId}
 use Rattle.spec.specs.Scopes.{oneOrNone}
 use Rattle.spec.specs.Answer.{scopeAt}
-use Rattle.spec.proofs.Sums.{all-getD}
-use Rattle.spec.proofs.Ordered.{AllBelow}
-use Rattle.spec.proofs.ScopeRange.{KindIn, InRange}
-use Rattle.spec.proofs.Sound.{kinds-in}
-use Rattle.layout.specs.Layout.{exprCount, nameCount, scopeCount, usesAt, scopesAt, enteredAt, exprLimit, nameLimit}
+use Rattle.spec.proofs.general.Sums.{all-getD}
+use Rattle.spec.proofs.sound.Ordered.{AllBelow}
+use Rattle.spec.proofs.sound.ScopeRange.{KindIn, InRange}
+use Rattle.spec.proofs.sound.Sound.{kinds-in}
+use Rattle.layout.specs.Layout.{exprLimit, nameLimit, useRow, scopeRow, exprCount, nameCount, scopeCount, usesAt, scopesAt, enteredAt}
 use Rattle.layout.specs.Rows.{cap, rowsFrom, raised}
 use Rattle.layout.specs.Keeps.{firstEntered, enteredOf, kindOfScope, scopeIn, scopeOf, scopesIn}
 use Rattle.layout.proofs.RowLaws.{getD-rows, length-rows, getD-between, cap-le}
 use Rattle.soundness.specs.Sound.{nameFits, scopeFits, scopesFit}
 use Rattle.soundness.specs.Coded.{ScopesFit}
-use Rattle.soundness.proofs.SoundLaws.{both-hold, all-from-each, ascends-from}
+use Rattle.soundness.proofs.SoundLaws.{all-from-each, ascends-from}
 use Rattle.kept.specs.Walks.{namesEntered, Neat}
 use Rattle.kept.proofs.ScopeReads.{scope-in, length-scopes}
 use Rattle.kept.proofs.NeatLaws.{neat-count, neat-rises, neat-below}
@@ -65,9 +66,9 @@ module _ (s : List ℕ) (neat : Neat s) (range : InRange (word s nameCount) (wor
   unfolding scopeFits scopeIn
   row-fits i l =
       let above : AllBelow i (oneOrNone (scopeIn s i .parent)) = rw (here i l) at (range .parents i (rw many l)) in
-      let parent = raised-within (word s (scopesAt + 12 * i + 4)) i above in
-      let source = with-within (word s (scopesAt + 12 * i + 8)) _ (word s exprCount) _ (kind-within i l) in
-      both-hold _ _ (le-leb _ i parent) (le-leb _ (word s exprCount) source)
+      let parent = raised-within (word s (scopesAt + scopeRow * i + 4)) i above in
+      let source = with-within (word s (scopesAt + scopeRow * i + 8)) _ (word s exprCount) _ (kind-within i l) in
+      and-intro (le-leb _ i parent) (le-leb _ (word s exprCount) source)
 
   first-within : (i : ScopeId) → i ≤ word s scopeCount → firstEntered s i ≤ nameLimit
   first-within i l = omega (arith, neat-below s neat i l, neat .few)
@@ -83,7 +84,7 @@ module _ (s : List ℕ) (neat : Neat s) (range : InRange (word s nameCount) (wor
       let k = j - lo in
       let z : lo + k ≡ j = omega arith in
       let own : k < length (namesEntered (scopeIn s i .kind)) = omega (arith, neat .follows i l) in
-      let one = entered-below (raised (word s (scopesAt + 12 * i + 8))) (enteredOf s i) k (word s nameCount) (word s exprCount) (kind-within i l) own in
+      let one = entered-below (raised (word s (scopesAt + scopeRow * i + 8))) (enteredOf s i) k (word s nameCount) (word s exprCount) (kind-within i l) own in
       let got : getD (rowsFrom f (cap lo nameLimit) (cap hi nameLimit)) k 0 ≡ f j = rw (is-lo, is-hi) (getD-between f lo hi k 0 (omega arith) ∙ ap f z) in
       rw got at one
 
@@ -105,16 +106,16 @@ module _ (s : List ℕ) (neat : Neat s) (range : InRange (word s nameCount) (wor
       let top : firstEntered s n ≤ nameLimit = first-within n (omega arith) in
       let rows = all-from-each (scopeFits s) n row-fits in
       let names = all-from-each (λ j. nameFits s (word s (enteredAt + 4 * j))) (firstEntered s n) (λ j l. lt-ltb _ (word s nameCount) (names-within n (omega arith) j l)) in
-      both-hold _ _ (ascends-from (firstEntered s) n nameLimit (neat .begins) (neat-rises s neat) top) (both-hold _ _ rows names)
+      and-intro (ascends-from (firstEntered s) n nameLimit (neat .begins) (neat-rises s neat) top) (and-intro rows names)
 
-  placed-within : (e : ExprId) → e < word s exprCount → word s (usesAt + 8 * e) ≤ word s scopeCount
+  placed-within : (e : ExprId) → e < word s exprCount → word s (usesAt + useRow * e) ≤ word s scopeCount
   unfolding scopesIn scopeOf oneOrNone
   placed-within e l =
       let c : cap (word s exprCount) exprLimit ≡ word s exprCount = sym (length-rows (scopeOf s) (cap (word s exprCount) exprLimit)) ∙ range .placed in
       let o = all-getD (λ (o : Option ScopeId). AllBelow (length (scopesIn s .scopes)) (oneOrNone o)) (scopesIn s .ofExpr) e none tt (range .places) in
       let is : getD (scopesIn s .ofExpr) e none ≡ scopeOf s e = getD-rows (scopeOf s) (cap (word s exprCount) exprLimit) e none (rw c l) in
-      let own : AllBelow (word s scopeCount) (oneOrNone (raised (word s (usesAt + 8 * e)))) = rw (is, many) at o in
-      raised-within (word s (usesAt + 8 * e)) (word s scopeCount) own
+      let own : AllBelow (word s scopeCount) (oneOrNone (raised (word s (usesAt + useRow * e)))) = rw (is, many) at o in
+      raised-within (word s (usesAt + useRow * e)) (word s scopeCount) own
 
   -- THEOREM. Scopes that are neat and in range pass the check of a store.
   pub neat-fits : ScopesFit s

@@ -6,14 +6,14 @@ use lib.ListN.{length}
 use Rattle.words.specs.Words.{word}
 use Rattle.spec.specs.Basics.{ExprId, NameId}
 use Rattle.spec.specs.Kept.{Kept}
-use Rattle.layout.specs.Layout.{referencesAt, nameLimit, referenceLimit}
+use Rattle.layout.specs.Layout.{nameLimit, referenceLimit, firstsAt, referencesAt, waitingAt}
 use Rattle.layout.specs.Rows.{rowsTo}
 use Rattle.layout.specs.Changes.{Range, Wrote, Still}
 use Rattle.layout.specs.Keeps.{firstReference, referencesOf, keptIn}
 
 -- where references begin, and references
 unfoldable pub listing : List Range
-listing = (2506848, 2588772) ∷ []
+listing = (firstsAt, waitingAt) ∷ []
 
 unfoldable pub listedBy : List (List ExprId) → ℕ
 listedBy [] = 0

@@ -9,7 +9,7 @@ use lib.Dec.{ltb, leb}
 use Rattle.words.specs.Words.{word}
 use Rattle.spec.specs.Basics.{ExprId, NameId, ScopeId, if_then_else_}
 use Rattle.spec.specs.Scopes.{ScopeKind, definitions, withExpr, Scope, Scopes, Walk, placeExpr, openScope}
-use Rattle.layout.specs.Layout.{scopeCount, usesAt, scopesAt, enteredAt, exprLimit, nameLimit, scopeLimit}
+use Rattle.layout.specs.Layout.{exprLimit, nameLimit, scopeLimit, useRow, scopeRow, scopeCount, usesAt, scopesAt, enteredAt, firstsAt}
 use Rattle.layout.specs.Rows.{cap, rowsTo}
 use Rattle.layout.specs.Changes.{Range, Wrote, Still}
 use Rattle.layout.specs.States.{exprsOf}
@@ -27,7 +27,7 @@ withOf (withExpr e) = some e
 
 -- the word k of a scope's row, and 0 where there is no such scope
 unfoldable pub scopeWord : List ℕ → ScopeId → ℕ → ℕ
-scopeWord s i k = if ltb i (cap (word s scopeCount) scopeLimit) then word s (scopesAt + 12 * i + k) else 0
+scopeWord s i k = if ltb i (cap (word s scopeCount) scopeLimit) then word s (scopesAt + scopeRow * i + k) else 0
 
 -- ---- steps: one that finds no room, or is given a number that no row can have, leaves everything as it was
 unfoldable pub enteredBy : List Scope → ℕ
@@ -58,7 +58,7 @@ tryRoot w =
 -- ---- what a step did
 -- the number of scopes; the scope of each expression (and its answer), the scopes, the names entered
 unfoldable pub walking : List Range
-walking = (20, 24) ∷ (2310228, 2506848) ∷ []
+walking = (scopeCount, scopeCount + 4) ∷ (usesAt, firstsAt) ∷ []
 
 -- how many names are entered in all: where those of the next scope will begin
 unfoldable pub usedNames : List ℕ → ℕ
@@ -84,9 +84,9 @@ pub record Walked {A : Type 0} (p : Walk A) (s : List ℕ) (r : A) (t : List ℕ
 
 -- None of the first n expressions is in a scope.
 pub record Unplaced (n : ℕ) (s t : List ℕ) : Type 0 where
-  pub wrote : Wrote ((2310228, 2441300) ∷ []) s t
+  pub wrote : Wrote ((usesAt, scopesAt) ∷ []) s t
   pub still : Still s t
-  pub gone : (e : ExprId) → e < n → word t (usesAt + 8 * e) ≡ 0
+  pub gone : (e : ExprId) → e < n → word t (usesAt + useRow * e) ≡ 0
 
 -- There is no scope, and no expression is in one.
 pub record Emptied (s t : List ℕ) : Type 0 where

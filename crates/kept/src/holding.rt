@@ -4,33 +4,29 @@ ghost use Prim.Native.Nat.{_<_};
 ghost use Rattle.spec.specs.Scopes.{holds, holder};
 ghost use Rattle.spec.specs.Answer.{scopeAt};
 ghost use Rattle.module.specs.Ids.{scopeOf};
-ghost use Rattle.layout.specs.Layout.{Long};
+ghost use Rattle.layout.specs.Layout.{scopeLimit, Long};
 ghost use Rattle.layout.specs.Keeps.{scopesIn};
 use crate::limits::in_use;
 use crate::scopes::entered_count;
+use layout::tables::ENTERED;
+use layout::tables::NAME_LIMIT;
+use layout::tables::SCOPE_COUNT;
+use layout::tables::SCOPE_LIMIT;
+use layout::tables::SCOPE_ROW;
+use layout::tables::SCOPES;
 use layout::wide;
 use module::MaybeScope;
 use module::NameId;
 use module::ScopeId;
 use words::get32;
 
-const SCOPE_COUNT: usize = 20;
-
-const SCOPES: usize = 2441300;
-
-const ENTERED: usize = 2490464;
-
-const NAME_LIMIT: u32 = 4096;
-
-const SCOPE_LIMIT: u32 = 4096;
-
 // Whether the name x is entered in the scope s. The table is read from the first of its names on.
 fn holds_name(store: &[u8], s: ScopeId, x: NameId) -> bool
-    requires { ⌜ Long (now store) × (s .0 < 4096) ⌝ }
+    requires { ⌜ Long (now store) × (s .0 < scopeLimit) ⌝ }
     ensures { λ r. ⌜ r ≡ holds (x .0) (scopeAt (scopesIn (now (store .entry)) .scopes) (s .0) .kind) ⌝ }
 {
     let n = entered_count(store, s);
-    let from = in_use(store, SCOPES + 12 * wide(s.0), NAME_LIMIT);
+    let from = in_use(store, SCOPES + SCOPE_ROW * wide(s.0), NAME_LIMIT);
     let mut i: u32 = 0;
     while i < n {
         if x.0 == get32(store, ENTERED + 4 * (wide(from) + wide(i))) {

@@ -1,4 +1,4 @@
-// What a store keeps beside the module: scopes, answers, references, and texts that changed.
+// What a store keeps beside the module: scopes, answers, references, and how much of the change room is spent.
 //
 // Every contract is an equation on what the bytes say, and says what else stays as it was.
 mod answers;
@@ -8,15 +8,8 @@ mod limits;
 mod references;
 mod scopes;
 
-pub use answers::Answer;
-pub use answers::MaybeAnswer;
-pub use answers::answer_of;
 pub use answers::kept_answer;
-pub use answers::reference_text;
 pub use answers::set_answer;
-pub use changes::add_text;
-pub use changes::set_name_text;
-pub use changes::set_reference_text;
 pub use changes::set_spent;
 pub use changes::spent;
 pub use holding::scope_holding;

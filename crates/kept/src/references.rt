@@ -13,6 +13,11 @@ ghost use Rattle.layout.specs.Keeps.{keptIn};
 ghost use Rattle.kept.specs.References.{Unlisted, Refers, Ended};
 use crate::limits::in_use;
 use crate::limits::less;
+use layout::tables::FIRSTS;
+use layout::tables::NAME_COUNT;
+use layout::tables::NAME_LIMIT;
+use layout::tables::REFERENCE_LIMIT;
+use layout::tables::REFERENCES;
 use layout::wide;
 use module::ExprId;
 use module::MaybeExpr;
@@ -20,15 +25,8 @@ use module::NameId;
 use words::get32;
 use words::put32;
 
-const NAME_COUNT: usize = 4;
-
-const FIRSTS: usize = 2506848;
-
-const REFERENCES: usize = 2523236;
-
-const NAME_LIMIT: u32 = 4096;
-
-const REFERENCE_LIMIT: u32 = 16384;
+// How many references there is room for, as a place is.
+const ROOM: usize = REFERENCE_LIMIT as usize;
 
 // ---- reading
 // How many references a name has.
@@ -77,7 +75,7 @@ pub fn add_reference(store: &mut [u8], x: NameId, i: u32, e: ExprId)
         return;
     }
     let at = wide(get32(store, FIRSTS + 4 * wide(name))) + wide(i);
-    if 16384 <= at {
+    if ROOM <= at {
         return;
     }
     put32(store, REFERENCES + 4 * at, e.0);
@@ -93,7 +91,7 @@ pub fn end_references(store: &mut [u8], x: NameId, n: u32)
         return;
     }
     let first = get32(store, FIRSTS + 4 * wide(name));
-    if 16384 < wide(first) + wide(n) {
+    if ROOM < wide(first) + wide(n) {
         return;
     }
     put32(store, FIRSTS + 4 * wide(name) + 4, first + n);

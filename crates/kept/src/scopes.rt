@@ -13,7 +13,7 @@ ghost use Rattle.words.specs.Words.{word, setWord};
 ghost use Rattle.spec.specs.Scopes.{definitions, withExpr};
 ghost use Rattle.spec.specs.Answer.{scopeAt, scopeOfExpr};
 ghost use Rattle.module.specs.Ids.{scopeOf, exprOf, nameOf};
-ghost use Rattle.layout.specs.Layout.{Long};
+ghost use Rattle.layout.specs.Layout.{exprLimit, scopeLimit, scopeRow, scopeCount, scopesAt, Long};
 ghost use Rattle.layout.specs.Rows.{cap, raised, setAll};
 ghost use Rattle.layout.specs.Keeps.{scopesIn};
 ghost use Rattle.kept.specs.Walks.{namesEntered, withOf, scopeWord, Unplaced, Walked, Emptied, Waits, tryOpen, tryPlace, tryRoot, waitingNames};
@@ -23,6 +23,16 @@ use crate::limits::raised_expr;
 use crate::limits::raised_scope;
 use layout::counter;
 use layout::put_three;
+use layout::tables::ENTERED;
+use layout::tables::EXPR_COUNT;
+use layout::tables::EXPR_LIMIT;
+use layout::tables::NAME_LIMIT;
+use layout::tables::SCOPE_COUNT;
+use layout::tables::SCOPE_LIMIT;
+use layout::tables::SCOPE_ROW;
+use layout::tables::SCOPES;
+use layout::tables::USE_ROW;
+use layout::tables::USES;
 use layout::wide;
 use module::Counter;
 use module::ExprId;
@@ -34,21 +44,8 @@ use module::ScopeId;
 use words::get32;
 use words::put32;
 
-const EXPR_COUNT: usize = 0;
-
-const SCOPE_COUNT: usize = 20;
-
-const USES: usize = 2310228;
-
-const SCOPES: usize = 2441300;
-
-const ENTERED: usize = 2490464;
-
-const EXPR_LIMIT: u32 = 16384;
-
-const NAME_LIMIT: u32 = 4096;
-
-const SCOPE_LIMIT: u32 = 4096;
+// How many names can be entered, as a place is.
+const ROOM: usize = NAME_LIMIT as usize;
 
 // ---- reading
 pub fn scope_count(store: &[u8]) -> u32
@@ -64,7 +61,7 @@ fn scope_word(store: &[u8], s: ScopeId, k: usize) -> u32
     ensures { λ r. ⌜ r ≡ scopeWord (now (store .entry)) (s .0) k ⌝ }
 {
     if s.0 < in_use(store, SCOPE_COUNT, SCOPE_LIMIT) {
-        get32(store, SCOPES + 12 * wide(s.0) + k)
+        get32(store, SCOPES + SCOPE_ROW * wide(s.0) + k)
     } else {
         0
     }
@@ -93,11 +90,11 @@ pub fn entered_count(store: &[u8], s: ScopeId) -> u32
     if in_use(store, SCOPE_COUNT, SCOPE_LIMIT) <= i {
         return 0;
     }
-    if get32(store, SCOPES + 12 * wide(i) + 8) != 0 {
+    if get32(store, SCOPES + SCOPE_ROW * wide(i) + 8) != 0 {
         return 0;
     }
-    let from = in_use(store, SCOPES + 12 * wide(i), NAME_LIMIT);
-    let to = in_use(store, SCOPES + 12 * wide(i) + 12, NAME_LIMIT);
+    let from = in_use(store, SCOPES + SCOPE_ROW * wide(i), NAME_LIMIT);
+    let to = in_use(store, SCOPES + SCOPE_ROW * wide(i) + SCOPE_ROW, NAME_LIMIT);
     less(to, from)
 }
 
@@ -107,7 +104,7 @@ pub fn entered_at(store: &[u8], s: ScopeId, i: u32) -> MaybeName
     ensures { λ r. ⌜ nameOf r ≡ getElem? (namesEntered (scopeAt (scopesIn (now (store .entry)) .scopes) (s .0) .kind)) i ⌝ }
 {
     if i < entered_count(store, s) {
-        let from = in_use(store, SCOPES + 12 * wide(s.0), NAME_LIMIT);
+        let from = in_use(store, SCOPES + SCOPE_ROW * wide(s.0), NAME_LIMIT);
         MaybeName::Name(NameId(get32(store, ENTERED + 4 * (wide(from) + wide(i)))))
     } else {
         MaybeName::Absent
@@ -121,7 +118,7 @@ pub fn scope_of(store: &[u8], e: ExprId) -> MaybeScope
 {
     let i = e.0;
     if i < in_use(store, EXPR_COUNT, EXPR_LIMIT) {
-        raised_scope(get32(store, USES + 8 * wide(i)))
+        raised_scope(get32(store, USES + USE_ROW * wide(i)))
     } else {
         MaybeScope::Absent
     }
@@ -130,12 +127,12 @@ pub fn scope_of(store: &[u8], e: ExprId) -> MaybeScope
 // ---- writing
 // None of the first n expressions is in a scope any more.
 fn clear_uses(store: &mut [u8], n: u32)
-    requires { ⌜ Long (now store) × (n ≤ 16384) ⌝ }
+    requires { ⌜ Long (now store) × (n ≤ exprLimit) ⌝ }
     ensures { λ _. ⌜ Unplaced n (now (store .entry)) (now (store .exit)) ⌝ }
 {
     let mut e: u32 = 0;
     while e < n {
-        put32(store, USES + 8 * wide(e), 0);
+        put32(store, USES + USE_ROW * wide(e), 0);
         e += 1;
     }
 }
@@ -154,13 +151,13 @@ pub fn clear_scopes(store: &mut [u8])
 // The row of the next scope, and one scope more. Parent and With are the words of the row, one too high or 0 for none.
 // Where the scope's names begin stands there already, and `end` is where those of the one after it will.
 fn put_scope(store: &mut [u8], count: Counter, parent: u32, source: u32, end: u32)
-    requires { ⌜ Long (now store) × (count .used < 4096) ⌝ }
-    ensures { λ _. ⌜ now (store .exit) ≡ setWord (setAll (now (store .entry)) (2441304 + 12 * count .used) (parent ∷ source ∷ end ∷ [])) 20 (count .used + 1) ⌝ }
+    requires { ⌜ Long (now store) × (count .used < scopeLimit) ⌝ }
+    ensures { λ _. ⌜ now (store .exit) ≡ setWord (setAll (now (store .entry)) (scopesAt + 4 + scopeRow * count .used) (parent ∷ source ∷ end ∷ [])) scopeCount (count .used + 1) ⌝ }
 {
     let next = count.next();
     put_three(
         store,
-        SCOPES + 4 + 12 * wide(count.used),
+        SCOPES + 4 + SCOPE_ROW * wide(count.used),
         parent,
         source,
         end,
@@ -177,7 +174,7 @@ pub fn open_root(store: &mut [u8])
     if !count.has_room(SCOPE_LIMIT) {
         return;
     }
-    let first = get32(store, SCOPES + 12 * wide(count.used));
+    let first = get32(store, SCOPES + SCOPE_ROW * wide(count.used));
     put_scope(store, count, 0, 0, first);
 }
 
@@ -194,7 +191,7 @@ pub fn place_expr(store: &mut [u8], e: ExprId, s: ScopeId)
     if in_use(store, EXPR_COUNT, EXPR_LIMIT) <= i {
         return;
     }
-    put32(store, USES + 8 * wide(i), scope + 1);
+    put32(store, USES + USE_ROW * wide(i), scope + 1);
 }
 
 // The i-th name, from 0 on, of those that wait for the next scope.
@@ -203,8 +200,8 @@ pub fn enter_name(store: &mut [u8], i: u32, x: NameId)
     ensures { λ _. ⌜ Waits i (x .0) (now (store .entry)) (now (store .exit)) ⌝ }
 {
     let n = in_use(store, SCOPE_COUNT, SCOPE_LIMIT);
-    let at = wide(get32(store, SCOPES + 12 * wide(n))) + wide(i);
-    if 4096 <= at {
+    let at = wide(get32(store, SCOPES + SCOPE_ROW * wide(n))) + wide(i);
+    if ROOM <= at {
         return;
     }
     put32(store, ENTERED + 4 * at, x.0);
@@ -223,8 +220,8 @@ pub fn open_scope(store: &mut [u8], parent: ScopeId, n: u32) -> ScopeId
     if SCOPE_LIMIT <= outer {
         return ScopeId(SCOPE_LIMIT);
     }
-    let first = get32(store, SCOPES + 12 * wide(count.used));
-    if 4096 < wide(first) + wide(n) {
+    let first = get32(store, SCOPES + SCOPE_ROW * wide(count.used));
+    if ROOM < wide(first) + wide(n) {
         return ScopeId(SCOPE_LIMIT);
     }
     put_scope(store, count, outer + 1, 0, first + n);
@@ -248,7 +245,7 @@ pub fn open_with(store: &mut [u8], parent: ScopeId, e: ExprId) -> ScopeId
     if EXPR_LIMIT <= source {
         return ScopeId(SCOPE_LIMIT);
     }
-    let first = get32(store, SCOPES + 12 * wide(count.used));
+    let first = get32(store, SCOPES + SCOPE_ROW * wide(count.used));
     put_scope(store, count, outer + 1, source + 1, first);
     ScopeId(count.used)
 }

@@ -13,7 +13,7 @@ use Rattle.module.specs.declared.ids.TextId as code-text
 use Rattle.module.specs.declared.literal.Literal as code-literal
 use Rattle.layout.specs.Texts.{textIn, maybeText}
 use Rattle.keys.specs.AstUtils.{attrKindOf}
-use Rattle.keys.specs.Literals.{literalGiven, ValidGiven, Held}
+use Rattle.keys.specs.Literals.{literalGiven, ValidGiven, LiteralRead}
 use Rattle.keys.specs.declared.ast_utils.AttrKind.{AttrKind}
 use Rattle.keys.specs.declared.ast_utils.AttrKind.the-variants.{Static, Dynamic}
 use Rattle.module.specs.declared.ids.MaybeText.{MaybeText}
@@ -43,7 +43,7 @@ module _ (s : List ℕ) where
     text-missing q = sym e ∙ ap (maybeText s) q
 
   -- ---- a literal
-  module _ (r : MaybeLiteral) (o : Option spec-module.Literal) (e : Held s o r) where
+  module _ (r : MaybeLiteral) (o : Option spec-module.Literal) (e : LiteralRead s o r) where
     pub literal-there : (l : code-literal.Literal) → r ≡ maybe-literal.Literal l → o ≡ some (literalOf (textIn s) l)
     unfolding literalGiven
     literal-there l q = sym (e .is) ∙ ap (literalGiven s) q

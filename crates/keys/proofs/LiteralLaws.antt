@@ -22,20 +22,20 @@ use Rattle.module.specs.Literals.{floatBits, natOf, literalOf, NotNegative, Val
 use Rattle.module.specs.declared.literal.Literal.the-variants as code
 use Rattle.module.proofs.LiteralLaws.{float-valid, integer-back}
 use Rattle.layout.specs.Texts.{textIn}
-use Rattle.keys.specs.Literals.{capped, numberFrom, floatHeld, integerHeld, literalHeld, allocLiteral, literalGiven, ValidGiven, Held}
+use Rattle.keys.specs.Literals.{capped, numberFrom, floatHeld, integerHeld, literalHeld, allocLiteral, literalGiven, ValidGiven, LiteralRead}
 use Rattle.keys.specs.declared.literals.Spelling.the-variants.{Digits, Bytes}
 use Rattle.keys.specs.declared.literals.MaybeLiteral.{MaybeLiteral}
 use Rattle.keys.specs.declared.literals.MaybeLiteral.the-variants.{Absent, Literal}
 use Rattle.keys.proofs.NumberLaws.{digits-say, bytes-say}
 
 -- ---- none
-held-none : (s : List ℕ) (o : Option spec.Literal) → none ≡ o → Held s o Absent
+held-none : (s : List ℕ) (o : Option spec.Literal) → none ≡ o → LiteralRead s o Absent
 unfolding literalGiven ValidGiven
 held-none s o e = record { is = e; valid = tt }
 
 -- ---- a Float
 module _ (s : List ℕ) (nodes : List Node) (n : NodeId) (f : ℕ) (e : f ≡ flag nodes n) where
-  pub float-none : (f ≡ 1 → ⊥) → Held s (floatHeld nodes n) Absent
+  pub float-none : (f ≡ 1 → ⊥) → LiteralRead s (floatHeld nodes n) Absent
   unfolding floatHeld
   float-none h = held-none s (floatHeld nodes n) (rw (← e, ne-eqb f 1 h))
 
@@ -43,12 +43,12 @@ module _ (s : List ℕ) (nodes : List Node) (n : NodeId) (f : ℕ) (e : f ≡ fl
     bits-are : bits ≡ capped (bitsFrom 0 (text nodes n))
     bits-are = b ∙ ap capped (bytes-say (textIn s t) 0 ∙ ap (bitsFrom 0) q)
 
-    pub float-over : 9218868437227405312 < bits → Held s (floatHeld nodes n) Absent
+    pub float-over : 9218868437227405312 < bits → LiteralRead s (floatHeld nodes n) Absent
     unfolding floatHeld
     float-over l =
         held-none s (floatHeld nodes n) (rw (← e, eq-eqb f 1 h, lt-leb (bitsFrom 0 (text nodes n)) 9218868437227405312 (omega (arith, bits-are))))
 
-    pub float-there : bits ≤ 9218868437227405312 → (x : Float) → floatBits x ≡ bits → Held s (floatHeld nodes n) (Literal (code.Float x))
+    pub float-there : bits ≤ 9218868437227405312 → (x : Float) → floatBits x ≡ bits → LiteralRead s (floatHeld nodes n) (Literal (code.Float x))
     unfolding floatHeld literalGiven ValidGiven literalOf
     float-there l x g =
         let same : bitsFrom 0 (text nodes n) ≡ bits = omega (arith, bits-are) in
@@ -62,12 +62,12 @@ module _ (s : List ℕ) (nodes : List Node) (n : NodeId) (t : ℕ) (q : textIn s
   value-is : value ≡ capped (valueFrom 0 (text nodes n))
   value-is = b ∙ ap capped (digits-say (textIn s t) 0 ∙ ap (valueFrom 0) q)
 
-  pub integer-over : 9223372036854775807 < value → Held s (integerHeld nodes n) Absent
+  pub integer-over : 9223372036854775807 < value → LiteralRead s (integerHeld nodes n) Absent
   unfolding integerHeld
   integer-over l = held-none s (integerHeld nodes n) (rw (lt-leb (valueFrom 0 (text nodes n)) 9223372036854775807 (omega (arith, value-is))))
 
   -- an i64 goes through the code by its word
-  pub integer-there : value ≤ 9223372036854775807 → (x y : ℤ) → natOf x ≡ value → NotNegative x → y ≡ toZ w64 (ofZ w64 x) → Held s (integerHeld nodes n) (Literal (code.Integer y))
+  pub integer-there : value ≤ 9223372036854775807 → (x y : ℤ) → natOf x ≡ value → NotNegative x → y ≡ toZ w64 (ofZ w64 x) → LiteralRead s (integerHeld nodes n) (Literal (code.Integer y))
   unfolding integerHeld literalGiven ValidGiven literalOf Valid
   integer-there l x y g v w =
       let same : valueFrom 0 (text nodes n) ≡ value = omega (arith, value-is) in
@@ -76,15 +76,15 @@ module _ (s : List ℕ) (nodes : List Node) (n : NodeId) (t : ℕ) (q : textIn s
 
 -- ---- by the number of the kind
 module _ (s : List ℕ) (nodes : List Node) (n : NodeId) (k : ℕ) where
-  pub literal-float : k ≡ 8 → {r : MaybeLiteral} → Held s (floatHeld nodes n) r → Held s (literalHeld nodes k n) r
+  pub literal-float : k ≡ 8 → {r : MaybeLiteral} → LiteralRead s (floatHeld nodes n) r → LiteralRead s (literalHeld nodes k n) r
   unfolding literalHeld
   literal-float h g = record { is = g .is ∙ rw (eq-eqb k 8 h); valid = g .valid }
 
-  pub literal-integer : (k ≡ 8 → ⊥) → k ≡ 9 → {r : MaybeLiteral} → Held s (integerHeld nodes n) r → Held s (literalHeld nodes k n) r
+  pub literal-integer : (k ≡ 8 → ⊥) → k ≡ 9 → {r : MaybeLiteral} → LiteralRead s (integerHeld nodes n) r → LiteralRead s (literalHeld nodes k n) r
   unfolding literalHeld
   literal-integer o h g = record { is = g .is ∙ rw (ne-eqb k 8 o, eq-eqb k 9 h); valid = g .valid }
 
-  pub literal-other : (k ≡ 8 → ⊥) → (k ≡ 9 → ⊥) → Held s (literalHeld nodes k n) Absent
+  pub literal-other : (k ≡ 8 → ⊥) → (k ≡ 9 → ⊥) → LiteralRead s (literalHeld nodes k n) Absent
   unfolding literalHeld
   literal-other o h = held-none s (literalHeld nodes k n) (rw (ne-eqb k 8 o, ne-eqb k 9 h))
 

@@ -61,6 +61,6 @@ unfoldable pub ValidGiven : MaybeLiteral → Type 0
 ValidGiven Absent = Unit {0}
 ValidGiven (Literal l) = Valid l
 
-pub record Held (s : List ℕ) (o : Option spec.Literal) (r : MaybeLiteral) : Type 0 where
+pub record LiteralRead (s : List ℕ) (o : Option spec.Literal) (r : MaybeLiteral) : Type 0 where
   pub is : literalGiven s r ≡ o
   pub valid : ValidGiven r

@@ -14,6 +14,7 @@ use intake::kid;
 use intake::node_flag;
 use intake::node_kind;
 use intake::node_text;
+use layout::tables::ABSENT;
 use module::MaybeNode;
 use module::MaybeText;
 use module::NameKind;
@@ -35,7 +36,7 @@ const INTERPOLATION: u32 = 33;
 const DEPTH: u32 = 256;
 
 // The number of the empty text.
-const EMPTY: TextId = TextId(4294967295);
+const EMPTY: TextId = TextId(ABSENT);
 
 // A static key by its text, or another by the expression that makes it.
 pub enum AttrKind {

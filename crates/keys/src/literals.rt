@@ -5,16 +5,16 @@ ghost use Prim.Native.Nat.{_-_};
 ghost use Rattle.layout.specs.Layout.{Long};
 ghost use Rattle.layout.specs.Nodes.{nodesOf};
 ghost use Rattle.layout.specs.Texts.{textIn};
-ghost use Rattle.keys.specs.Literals.{capped, oneMore, numberFrom, floatHeld, integerHeld, literalHeld, Held};
+ghost use Rattle.keys.specs.Literals.{capped, oneMore, numberFrom, floatHeld, integerHeld, literalHeld, LiteralRead};
 use intake::node_flag;
 use intake::node_text;
-use intake::text_byte;
-use intake::text_length;
 use module::Literal;
 use module::NodeId;
 use module::TextId;
 use module::float_of;
 use module::integer_of;
+use texts::text_byte;
+use texts::text_length;
 
 const FLOAT: u32 = 8;
 
@@ -99,7 +99,7 @@ fn number_in(store: &[u8], t: TextId, spelling: Spelling) -> u64
 // accepted sheet, and give none.
 fn float_literal(store: &[u8], n: NodeId) -> MaybeLiteral
     requires { ⌜ Long (now store) ⌝ }
-    ensures { λ r. ⌜ Held (now (store .entry)) (floatHeld (nodesOf (now (store .entry))) (n .0)) r ⌝ }
+    ensures { λ r. ⌜ LiteralRead (now (store .entry)) (floatHeld (nodesOf (now (store .entry))) (n .0)) r ⌝ }
 {
     if node_flag(store, n) != 1 {
         return MaybeLiteral::Absent;
@@ -114,7 +114,7 @@ fn float_literal(store: &[u8], n: NodeId) -> MaybeLiteral
 // The literal that an Integer is, where it is an i64.
 fn integer_literal(store: &[u8], n: NodeId) -> MaybeLiteral
     requires { ⌜ Long (now store) ⌝ }
-    ensures { λ r. ⌜ Held (now (store .entry)) (integerHeld (nodesOf (now (store .entry))) (n .0)) r ⌝ }
+    ensures { λ r. ⌜ LiteralRead (now (store .entry)) (integerHeld (nodesOf (now (store .entry))) (n .0)) r ⌝ }
 {
     let value = number_in(store, node_text(store, n), Spelling::Digits);
     if LARGEST_INTEGER < value {
@@ -126,7 +126,7 @@ fn integer_literal(store: &[u8], n: NodeId) -> MaybeLiteral
 // The literal that a node of the kind is: that of a Float or an Integer, and none for the other kinds.
 pub fn literal_of(store: &[u8], n: NodeId, kind: u32) -> MaybeLiteral
     requires { ⌜ Long (now store) ⌝ }
-    ensures { λ r. ⌜ Held (now (store .entry)) (literalHeld (nodesOf (now (store .entry))) kind (n .0)) r ⌝ }
+    ensures { λ r. ⌜ LiteralRead (now (store .entry)) (literalHeld (nodesOf (now (store .entry))) kind (n .0)) r ⌝ }
 {
     if kind == FLOAT {
         return float_literal(store, n);

@@ -1,5 +1,6 @@
--- DEMAND 3, of the exported calls themselves: lists of calls, each of which meets its own `ensures` and no more is known of it, and what holds of every such list
--- from a store that an accepted load left. Assumes nothing.
+-- DEMAND 3 (docs/RULES.md, "Demand 3"), of the exported calls themselves: lists of calls, each of which meets its own
+-- `ensures` and no more is known of it, and what holds of every such list from a store that an accepted load left.
+-- Assumes nothing.
 use mathlib.Core.Path.{_≡_, refl, sym, ap, subst, _∙_}
 use mathlib.Core.List.{List, [], _∷_, map}
 use Prim.Native.Nat.{ℕ, suc, _≤_}
@@ -15,7 +16,7 @@ use Rattle.spec.specs.Lower.{lowerModule}
 use Rattle.spec.specs.Calls.{Call, askReference, askName, changeReference, changeName, Outcome, check, outcome}
 use Rattle.spec.specs.Kept.{keptOutcome}
 use Rattle.spec.specs.Book.{Book, bookOf, bookOutcome, bookAfter, bookOutcomes}
-use Rattle.spec.proofs.Incremental.{asBook}
+use Rattle.spec.proofs.change.Incremental.{asBook}
 use Rattle.words.specs.Runs.{splice}
 use Rattle.words.specs.Words.{setWord, bytesOf}
 use Rattle.layout.specs.Rows.{setAll}

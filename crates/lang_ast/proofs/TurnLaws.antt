@@ -9,24 +9,23 @@ use lib.ListN.{length}
 use lib.Dec.{ltb, leb}
 use Rattle.words.specs.Equality.{equalb}
 use Rattle.spec.specs.Basics.{ExprId, if_then_else_}
-use Rattle.spec.specs.Module.{Module}
 use Rattle.spec.specs.Sheet.{Node, Judged}
 use Rattle.spec.specs.Tree.{judge}
 use Rattle.spec.specs.Lower.{lowerModule}
 use Rattle.spec.specs.Answer.{Answer}
 use Rattle.spec.specs.Calls.{Condition, Call, askReference, askName, Outcome, refusal, answered, listed, accepted, isAccepted, oldText, newText, withList, check, replyOf, replyBytes, inBuffer, giveAnswer, answerCall, outcome, loading}
-use Rattle.spec.specs.Kept.{Kept, keptOf, keptOutcome, keptWith, keptAfter, keptAnswer, keptReferences}
+use Rattle.spec.specs.Kept.{Kept, keptOutcome, keptAnswer, keptReferences}
 use Rattle.spec.specs.Book.{Book, bookOf, bookOutcome, bookAfter, bookAfterAll}
 use Rattle.spec.specs.Demand as demand
-use Rattle.spec.proofs.Incremental.{asBook}
-use Rattle.spec.proofs.Demand3 as demand3
+use Rattle.spec.proofs.change.Incremental.{asBook}
+use Rattle.spec.proofs.change.Demand3 as demand3
 use Rattle.layout.specs.Keeps.{keptIn}
 use Rattle.soundness.specs.Sound.{conditionOf}
 use Rattle.replies.specs.Replies.{returned, replyAfter, bufferAfter, loadOutcome}
 use Rattle.requests.specs.Requests.{outcomeIn, Asked, Leaves, Changed}
 use Rattle.load.specs.Loads as loads
 use Rattle.load.specs.Loads.{Loaded, judgedIn}
-use Rattle.spec.proofs.Refusals.{refused-number}
+use Rattle.spec.proofs.reading.Refusals.{refused-number}
 use Rattle.lang_ast.specs.Turns.{KeepsBook, Turn, Asking}
 
 -- ---- an asking is never a change
@@ -59,10 +58,6 @@ module _ (store : Condition) (k : Kept) where
       let es = keptReferences k n in
       state-checked (askName n buffer reply) (not-accepted (leb (length (k .lowered .names)) n) 24 n _ (not-accepted (ltb buffer (4 * length es)) 26 (length es) (listed es) refl))
 
-  pub kept-as-was : (c : Call) → isAccepted (keptOutcome store k c) ≡ false → keptAfter store k c ≡ k
-  unfolding keptAfter keptWith
-  kept-as-was c h = rw h
-
 -- ---- what a contract says is what demand 3 asks of a call
 abbrev Called : List ℕ → Call → Outcome → List ℕ → Type 0
 Called s c o t = demand.Called (List ℕ) keptIn conditionOf s c o t
@@ -72,7 +67,7 @@ Ready s = demand3.Ready (List ℕ) keptIn conditionOf s
 
 asked-called : (s : List ℕ) (c : Call) → isAccepted (outcomeIn s c) ≡ false → Called s c (outcomeIn s c) s
 unfolding outcomeIn
-asked-called s c h = record { told = refl; left = sym (kept-as-was (conditionOf s) (keptIn s) c h); same = λ z. refl; stays = λ e. e }
+asked-called s c h = record { told = refl; left = sym (demand3.refused-same (conditionOf s) (keptIn s) c h); same = λ z. refl; stays = λ e. e }
 
 changed-called : (s t : List ℕ) (c : Call) → Leaves c s t → Called s c (outcomeIn s c) t
 unfolding outcomeIn
@@ -140,10 +135,6 @@ pub record Start (sheet s : List ℕ) : Type 0 where
   pub ready : Ready s
   pub book : asBook (keptIn s) ≡ bookOf (lowerModule nodes)
 
-kept-book : (m : Module) → asBook (keptOf m) ≡ bookOf m
-unfolding keptOf bookOf
-kept-book m = refl
-
 loaded-starts : (sheet s t : List ℕ) (nodes : List Node) → judge sheet ≡ Judged.accepted nodes → Loaded nodes s t → Start sheet t
 loaded-starts sheet s t nodes e x =
     let start = demand3.load-starts (List ℕ) keptIn conditionOf sheet nodes t (record { judged = e; left = x .kept; sound = x .sound }) in
@@ -153,7 +144,7 @@ loaded-starts sheet s t nodes e x =
       judged = e;
       begins = h .begins;
       ready = demand3.starts-ready (List ℕ) keptIn conditionOf (lowerModule nodes) t start;
-      book = rw (start .left) (kept-book (lowerModule nodes));
+      book = rw (start .left) (demand3.kept-book (lowerModule nodes));
     }
 
 -- what a load comes to, taken apart

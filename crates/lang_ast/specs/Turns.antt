@@ -1,5 +1,6 @@
--- Demand 3 of one call at its turn, in terms of what crosses the door: the number returned, the bytes that the host lent, and the bytes of the store. Document
--- 01's sentences stand beside `KeepsBook` and `Moves` in the crate spec (Demand.antt).
+-- Demand 3 of one call at its turn (docs/RULES.md, "Demand 3"), in terms of what crosses the door: the number
+-- returned, the bytes that the host lent, and the bytes of the store. Document 01's sentences stand beside
+-- `KeepsBook` and `Moves` in the crate spec (Demand.antt).
 use mathlib.Core.Path.{_≡_}
 use mathlib.Core.List.{List}
 use Prim.Native.Nat.{ℕ}

@@ -1,7 +1,7 @@
 -- What a write leaves of the bytes: `Wrote` speaks of words, and the words that are as they were have the bytes that they had. Assumes nothing.
 use mathlib.Core.Path.{_≡_, refl, sym, ap, _∙_}
 use mathlib.Core.Logic.{_⊎_, inl, inr, ⊎-elim}
-use mathlib.Core.Bool.{Bool, true, _&&_}
+use mathlib.Core.Bool.{Bool, true, _&&_, and-eq-true-iff}
 use mathlib.Core.List.{List, [], _∷_}
 use Prim.Native.Nat.{ℕ, zero, suc, _+_, _*_, _/_, _%_, _≤_, _<_}
 use native.Mathlib.Omega.{arith}
@@ -9,7 +9,6 @@ use lib.ListN.{getD, drop, length-drop}
 use lib.Seq.{getD-drop, ext-getD}
 use lib.Dec.{eqb, leb}
 use borrow.Author.Tests.{eqb-true, leb-true}
-use Rattle.spec.proofs.Subtrees.{and-true}
 use Rattle.words.specs.Runs.{run}
 use Rattle.words.specs.Words.{number, word}
 use Rattle.words.proofs.RunLaws.{getD-run}
@@ -58,8 +57,8 @@ word-spared : (rs : List Range) → aligned rs ≡ true → (b : ℕ) → Spared
 unfolding Outside Spared
 word-spared [] a b o = tt
 word-spared (r ∷ rs) a b o =
-    let x = and-true (eqb (r .0 % 4) 0) (eqb (r .1 % 4) 0 && aligned rs) a in
-    let y = and-true (eqb (r .1 % 4) 0) (aligned rs) (x .1) in
+    let x = and-eq-true-iff (eqb (r .0 % 4) 0) (eqb (r .1 % 4) 0 && aligned rs) .0 a in
+    let y = and-eq-true-iff (eqb (r .1 % 4) 0) (aligned rs) .0 (x .1) in
     let lo = eqb-true (r .0 % 4) 0 (x .0) in
     let hi = eqb-true (r .1 % 4) 0 (y .0) in
     (⊎-elim (λ z. inl (omega arith)) (λ z. inr (omega arith)) (o .0), word-spared rs (y .1) b (o .1))
@@ -68,7 +67,7 @@ past-all : (rs : List Range) (k : ℕ) → endBy k rs ≡ true → (b : ℕ) →
 unfolding Outside
 past-all [] k e b h = tt
 past-all (r ∷ rs) k e b h =
-    let x = and-true (leb (r .1) k) (endBy k rs) e in
+    let x = and-eq-true-iff (leb (r .1) k) (endBy k rs) .0 e in
     (inr (omega (arith, leb-true (r .1) k (x .0))), past-all rs k (x .1) b h)
 
 module _ {rs : List Range} {s t : List ℕ} (w : Wrote rs s t) (hs : Bytes s) (ht : Bytes t) where

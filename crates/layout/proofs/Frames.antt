@@ -1,7 +1,7 @@
 -- What a write leaves as it was: a part of the decoding, if the write lies outside the ranges that the part is read from. Assumes nothing.
 use mathlib.Core.Path.{_≡_, refl, ap, _∙_}
-use mathlib.Core.Logic.{_⊎_, inl, inr}
-use mathlib.Core.Bool.{Bool, true, false, _&&_, _||_}
+use mathlib.Core.Logic.{_⊎_, inl, inr, ⊎-elim}
+use mathlib.Core.Bool.{Bool, true, false, _&&_, _||_, and-eq-true-iff}
 use mathlib.Core.List.{List, [], _∷_}
 use Prim.Native.Nat.{ℕ, zero, suc, _+_, _-_, _*_, _≤_, _<_}
 use native.Mathlib.Omega.{arith}
@@ -9,14 +9,13 @@ use lib.ListN.{length, take, drop}
 use lib.Seq.{drop-drop}
 use lib.Dec.{leb}
 use borrow.Author.Tests.{leb-true, lt-leb}
-use Rattle.spec.proofs.Subtrees.{and-true}
 use Rattle.words.specs.Runs.{run}
 use Rattle.words.specs.Words.{number, word}
 use Rattle.spec.specs.Module.{Module}
 use Rattle.spec.specs.Lower.{moduleOf}
 use Rattle.module.specs.Ids.{pointerOf}
 use Rattle.module.specs.declared.pointer.Pointer as code-pointer
-use Rattle.layout.specs.Layout.{absent, textsPlace, sheetAt, textsAt, textLimit, exprsAt, exprPointersAt, itemsAt, itemLimit, namesAt, namePointersAt, diagnosticsAt, lostAt, usesAt, scopesAt, enteredAt, firstsAt, referencesAt, waitingAt, setsAt, entriesAt, runAt, exprLimit, nameLimit, diagnosticLimit, scopeLimit, referenceLimit, waitingLimit, setLimit, entryLimit, exprCount, nameCount, diagnosticCount, lostCount, entryPlace, scopeCount, waitingCount, setCount, entryCount}
+use Rattle.layout.specs.Layout.{absent, exprLimit, itemLimit, nameLimit, diagnosticLimit, waitingLimit, setLimit, entryLimit, textLimit, exprRow, pointerRow, itemRow, nameRow, diagnosticRow, setRow, entryRow, exprCount, nameCount, diagnosticCount, lostCount, textsPlace, waitingCount, setCount, entryCount, exprsAt, exprPointersAt, itemsAt, namesAt, namePointersAt, diagnosticsAt, lostAt, usesAt, waitingAt, setsAt, entriesAt, runAt, sheetAt, textsAt}
 use Rattle.layout.specs.Rows.{cap, rowsTo, rowsFrom}
 use Rattle.layout.specs.Changes.{Range, Outside, Wrote, Still}
 use Rattle.layout.specs.Texts.{textsUsed, textOf, textIn}
@@ -34,12 +33,16 @@ apart r (w ∷ ws) = (leb (r .1) (w .0) || leb (w .1) (r .0)) && apart r ws
 abbrev pub Same : List ℕ → List ℕ → ℕ → ℕ → Type 0
 Same s t lo hi = (j : ℕ) → lo ≤ j → j + 4 ≤ hi → word t j ≡ word s j
 
+-- what lies outside a range lies outside what is written in it
+pub clear-of : (at m lo hi j : ℕ) → lo ≤ at → at + m ≤ hi → (j + 4 ≤ lo) ⊎ (hi ≤ j) → (j + 4 ≤ at) ⊎ (at + m ≤ j)
+clear-of at m lo hi j a b o = ⊎-elim (λ z. inl (omega arith)) (λ z. inr (omega arith)) o
+
 -- ---- from a write to a range
 outside : (ws : List Range) (lo hi : ℕ) → apart (lo, hi) ws ≡ true → (j : ℕ) → lo ≤ j → j + 4 ≤ hi → Outside j ws
 unfolding Outside
 outside [] lo hi e j a b = tt
 outside (w ∷ ws) lo hi e j a b =
-    let z = and-true (leb hi (w .0) || leb (w .1) lo) (apart (lo, hi) ws) e in
+    let z = and-eq-true-iff (leb hi (w .0) || leb (w .1) lo) (apart (lo, hi) ws) .0 e in
     (side (leb hi (w .0)) refl (z .0), outside ws lo hi (z .1) j a b)
   where
     side : (x : Bool) → leb hi (w .0) ≡ x → (x || leb (w .1) lo) ≡ true → (j + 4 ≤ w .0) ⊎ (w .1 ≤ j)
@@ -92,30 +95,30 @@ item-same s t at e w =
     rw (w at (omega arith) (omega arith), w (at + 4) (omega arith) (omega arith), w (at + 8) (omega arith) (omega arith), text-still s t (word s (at + 4)) e)
 
 -- the items from i on, before j, where these lie below the limit
-pub items-same : (s t : List ℕ) (i j : ℕ) → Still s t → Same s t (itemsAt + 12 * i) (itemsAt + 12 * j) → rowsFrom (itemIn t) i j ≡ rowsFrom (itemIn s) i j
+pub items-same : (s t : List ℕ) (i j : ℕ) → Still s t → Same s t (itemsAt + itemRow * i) (itemsAt + itemRow * j) → rowsFrom (itemIn t) i j ≡ rowsFrom (itemIn s) i j
 unfolding itemIn
-items-same s t i j e w = between-same (λ k. itemAt t (itemsAt + 12 * k)) (λ k. itemAt s (itemsAt + 12 * k)) i j (λ k a b. item-same s t (itemsAt + 12 * k) e (λ m p q. w m (omega arith) (omega arith)))
+items-same s t i j e w = between-same (λ k. itemAt t (itemsAt + itemRow * k)) (λ k. itemAt s (itemsAt + itemRow * k)) i j (λ k a b. item-same s t (itemsAt + itemRow * k) e (λ m p q. w m (omega arith) (omega arith)))
 
 -- an expression: its row, where the next one's items begin, its pointer, its items
-pub made-same : (s t : List ℕ) (e : ℕ) → Still s t → Same s t (exprsAt + 20 * e) (exprsAt + 20 * e + 24) → Same s t (exprPointersAt + 12 * e) (exprPointersAt + 12 * e + 12) → itemsOf t e ≡ itemsOf s e → madeIn t e ≡ madeIn s e
+pub made-same : (s t : List ℕ) (e : ℕ) → Still s t → Same s t (exprsAt + exprRow * e) (exprsAt + exprRow * e + 24) → Same s t (exprPointersAt + pointerRow * e) (exprPointersAt + pointerRow * e + 12) → itemsOf t e ≡ itemsOf s e → madeIn t e ≡ madeIn s e
 unfolding madeIn exprOf sortOf
 made-same s t e still w p i =
     rw (
-      w (exprsAt + 20 * e + 4) (omega arith) (omega arith),
-      w (exprsAt + 20 * e + 8) (omega arith) (omega arith),
-      w (exprsAt + 20 * e + 12) (omega arith) (omega arith),
-      w (exprsAt + 20 * e + 16) (omega arith) (omega arith),
-      pointer-same s t (exprPointersAt + 12 * e) p,
+      w (exprsAt + exprRow * e + 4) (omega arith) (omega arith),
+      w (exprsAt + exprRow * e + 8) (omega arith) (omega arith),
+      w (exprsAt + exprRow * e + 12) (omega arith) (omega arith),
+      w (exprsAt + exprRow * e + 16) (omega arith) (omega arith),
+      pointer-same s t (exprPointersAt + pointerRow * e) p,
       i,
-      text-still s t (word s (exprsAt + 20 * e + 8)) still,
+      text-still s t (word s (exprsAt + exprRow * e + 8)) still,
     )
 
-first-same : (s t : List ℕ) (e : ℕ) → Same s t (exprsAt + 20 * e) (exprsAt + 20 * e + 4) → firstItem t e ≡ firstItem s e
+first-same : (s t : List ℕ) (e : ℕ) → Same s t (exprsAt + exprRow * e) (exprsAt + exprRow * e + 4) → firstItem t e ≡ firstItem s e
 unfolding firstItem
-first-same s t e w = w (exprsAt + 20 * e) (omega arith) (omega arith)
+first-same s t e w = w (exprsAt + exprRow * e) (omega arith) (omega arith)
 
 -- the items of an expression, whatever its row holds: they are taken from the table alone
-pub own-items-same : (s t : List ℕ) (e : ℕ) → Still s t → Same s t (exprsAt + 20 * e) (exprsAt + 20 * e + 24) → Same s t itemsAt namesAt → itemsOf t e ≡ itemsOf s e
+pub own-items-same : (s t : List ℕ) (e : ℕ) → Still s t → Same s t (exprsAt + exprRow * e) (exprsAt + exprRow * e + 24) → Same s t itemsAt namesAt → itemsOf t e ≡ itemsOf s e
 unfolding itemsOf
 own-items-same s t e still w v =
     let a = first-same s t e (λ j p q. w j (omega arith) (omega arith)) in
@@ -123,34 +126,34 @@ own-items-same s t e still w v =
     let l = cap-lim (firstItem s (e + 1)) itemLimit in
     rw (a, b, items-same s t (cap (firstItem s e) itemLimit) (cap (firstItem s (e + 1)) itemLimit) still (λ j p q. v j (omega arith) (omega arith)))
 
-pub name-same : (s t : List ℕ) (x : ℕ) → Still s t → Same s t (namesAt + 8 * x) (namesAt + 8 * x + 8) → Same s t (namePointersAt + 12 * x) (namePointersAt + 12 * x + 12) → nameIn t x ≡ nameIn s x
+pub name-same : (s t : List ℕ) (x : ℕ) → Still s t → Same s t (namesAt + nameRow * x) (namesAt + nameRow * x + 8) → Same s t (namePointersAt + pointerRow * x) (namePointersAt + pointerRow * x + 12) → nameIn t x ≡ nameIn s x
 unfolding nameIn
 name-same s t x e w p =
     rw (
-      w (namesAt + 8 * x) (omega arith) (omega arith),
-      w (namesAt + 8 * x + 4) (omega arith) (omega arith),
-      pointer-same s t (namePointersAt + 12 * x) p,
-      text-still s t (word s (namesAt + 8 * x)) e,
+      w (namesAt + nameRow * x) (omega arith) (omega arith),
+      w (namesAt + nameRow * x + 4) (omega arith) (omega arith),
+      pointer-same s t (namePointersAt + pointerRow * x) p,
+      text-still s t (word s (namesAt + nameRow * x)) e,
     )
 
-pub diagnostic-same : (s t : List ℕ) (i : ℕ) → Still s t → Same s t (diagnosticsAt + 28 * i) (diagnosticsAt + 28 * i + 28) → diagnosticIn t i ≡ diagnosticIn s i
+pub diagnostic-same : (s t : List ℕ) (i : ℕ) → Still s t → Same s t (diagnosticsAt + diagnosticRow * i) (diagnosticsAt + diagnosticRow * i + 28) → diagnosticIn t i ≡ diagnosticIn s i
 unfolding diagnosticIn
 diagnostic-same s t i e w =
     rw (
-      w (diagnosticsAt + 28 * i) (omega arith) (omega arith),
-      pointer-same s t (diagnosticsAt + 28 * i + 4) (λ j p q. w j (omega arith) (omega arith)),
-      pointer-same s t (diagnosticsAt + 28 * i + 16) (λ j p q. w j (omega arith) (omega arith)),
-      text-still s t (word s (diagnosticsAt + 28 * i)) e,
+      w (diagnosticsAt + diagnosticRow * i) (omega arith) (omega arith),
+      pointer-same s t (diagnosticsAt + diagnosticRow * i + 4) (λ j p q. w j (omega arith) (omega arith)),
+      pointer-same s t (diagnosticsAt + diagnosticRow * i + 16) (λ j p q. w j (omega arith) (omega arith)),
+      text-still s t (word s (diagnosticsAt + diagnosticRow * i)) e,
     )
 
-pub set-same : (s t : List ℕ) (i : ℕ) → Same s t (setsAt + 16 * i) (setsAt + 16 * i + 16) → setIn t i ≡ setIn s i
+pub set-same : (s t : List ℕ) (i : ℕ) → Same s t (setsAt + setRow * i) (setsAt + setRow * i + 16) → setIn t i ≡ setIn s i
 unfolding setIn
-set-same s t i w = rw (w (setsAt + 16 * i + 12) (omega arith) (omega arith), pointer-same s t (setsAt + 16 * i) (λ j p q. w j (omega arith) (omega arith)))
+set-same s t i w = rw (w (setsAt + setRow * i + 12) (omega arith) (omega arith), pointer-same s t (setsAt + setRow * i) (λ j p q. w j (omega arith) (omega arith)))
 
-pub entry-same : (s t : List ℕ) (i : ℕ) → Still s t → Same s t (entriesAt + 32 * i) (entriesAt + 32 * i + 32) → entryIn t i ≡ entryIn s i
+pub entry-same : (s t : List ℕ) (i : ℕ) → Still s t → Same s t (entriesAt + entryRow * i) (entriesAt + entryRow * i + 32) → entryIn t i ≡ entryIn s i
 unfolding entryIn entryOf
 entry-same s t i e w =
-    let at = entriesAt + 32 * i in
+    let at = entriesAt + entryRow * i in
     rw (
       w at (omega arith) (omega arith),
       w (at + 4) (omega arith) (omega arith),
@@ -168,60 +171,60 @@ module _ {rs : List Range} {s t : List ℕ} (w : Wrote rs s t) where
   pub number-kept : (c : ℕ) → apart (c, c + 4) rs ≡ true → word t c ≡ word s c
   number-kept c e = same-on c (c + 4) w e c (omega arith) (omega arith)
 
-  pub exprs-kept : Still s t → apart (0, 4) rs ≡ true → apart (64, 917588) rs ≡ true → exprsOf t ≡ exprsOf s
+  pub exprs-kept : Still s t → apart (0, 4) rs ≡ true → apart (exprsAt, namesAt) rs ≡ true → exprsOf t ≡ exprsOf s
   unfolding exprsOf
   exprs-kept still c e =
-      let v = same-on 64 917588 w e in
+      let v = same-on exprsAt namesAt w e in
       let l = cap-lim (word s exprCount) exprLimit in
       rw (number-kept exprCount c) (rows-same (madeIn t) (madeIn s) (cap (word s exprCount) exprLimit) (λ i h.
-      let row : Same s t (exprsAt + 20 * i) (exprsAt + 20 * i + 24) = λ j p q. v j (omega arith) (omega arith) in
+      let row : Same s t (exprsAt + exprRow * i) (exprsAt + exprRow * i + 24) = λ j p q. v j (omega arith) (omega arith) in
       made-same s t i still row (λ j p q. v j (omega arith) (omega arith)) (own-items-same s t i still row (λ j p q. v j (omega arith) (omega arith)))))
 
-  pub names-kept : Still s t → apart (4, 8) rs ≡ true → apart (917588, 999508) rs ≡ true → namesOf t ≡ namesOf s
+  pub names-kept : Still s t → apart (4, 8) rs ≡ true → apart (namesAt, diagnosticsAt) rs ≡ true → namesOf t ≡ namesOf s
   unfolding namesOf
   names-kept still c e =
-      let v = same-on 917588 999508 w e in
+      let v = same-on namesAt diagnosticsAt w e in
       let l = cap-lim (word s nameCount) nameLimit in
       rw (number-kept nameCount c) (rows-same (nameIn t) (nameIn s) (cap (word s nameCount) nameLimit) (λ i h. name-same s t i still (λ j p q. v j (omega arith) (omega arith)) (λ j p q. v j (omega arith) (omega arith))))
 
-  pub diagnostics-kept : Still s t → apart (8, 12) rs ≡ true → apart (999508, 1917012) rs ≡ true → diagnosticsOf t ≡ diagnosticsOf s
+  pub diagnostics-kept : Still s t → apart (8, 12) rs ≡ true → apart (diagnosticsAt, lostAt) rs ≡ true → diagnosticsOf t ≡ diagnosticsOf s
   unfolding diagnosticsOf
   diagnostics-kept still c e =
-      let v = same-on 999508 1917012 w e in
+      let v = same-on diagnosticsAt lostAt w e in
       let l = cap-lim (word s diagnosticCount) diagnosticLimit in
       rw (number-kept diagnosticCount c) (rows-same (diagnosticIn t) (diagnosticIn s) (cap (word s diagnosticCount) diagnosticLimit) (λ i h. diagnostic-same s t i still (λ j p q. v j (omega arith) (omega arith))))
 
-  pub lost-kept : apart (12, 16) rs ≡ true → apart (1917012, 2310228) rs ≡ true → lostOf t ≡ lostOf s
+  pub lost-kept : apart (12, 16) rs ≡ true → apart (lostAt, usesAt) rs ≡ true → lostOf t ≡ lostOf s
   unfolding lostOf
   lost-kept c e =
-      let v = same-on 1917012 2310228 w e in
+      let v = same-on lostAt usesAt w e in
       let l = cap-lim (word s lostCount) diagnosticLimit in
-      rw (number-kept lostCount c) (rows-same (λ i. pointerAt t (lostAt + 12 * i)) (λ i. pointerAt s (lostAt + 12 * i)) (cap (word s lostCount) diagnosticLimit) (λ i h. pointer-same s t (lostAt + 12 * i) (λ j p q. v j (omega arith) (omega arith))))
+      rw (number-kept lostCount c) (rows-same (λ i. pointerAt t (lostAt + pointerRow * i)) (λ i. pointerAt s (lostAt + pointerRow * i)) (cap (word s lostCount) diagnosticLimit) (λ i h. pointer-same s t (lostAt + pointerRow * i) (λ j p q. v j (omega arith) (omega arith))))
 
-  pub sets-kept : apart (36, 40) rs ≡ true → apart (2785380, 2850916) rs ≡ true → setsOf t ≡ setsOf s
+  pub sets-kept : apart (36, 40) rs ≡ true → apart (setsAt, entriesAt) rs ≡ true → setsOf t ≡ setsOf s
   unfolding setsOf
   sets-kept c e =
-      let v = same-on 2785380 2850916 w e in
+      let v = same-on setsAt entriesAt w e in
       let l = cap-lim (word s setCount) setLimit in
       rw (number-kept setCount c) (rows-same (setIn t) (setIn s) (cap (word s setCount) setLimit) (λ i h. set-same s t i (λ j p q. v j (omega arith) (omega arith))))
 
-  pub entries-kept : Still s t → apart (40, 44) rs ≡ true → apart (2850916, 2981988) rs ≡ true → entriesOf t ≡ entriesOf s
+  pub entries-kept : Still s t → apart (40, 44) rs ≡ true → apart (entriesAt, runAt) rs ≡ true → entriesOf t ≡ entriesOf s
   unfolding entriesOf
   entries-kept still c e =
-      let v = same-on 2850916 2981988 w e in
+      let v = same-on entriesAt runAt w e in
       let l = cap-lim (word s entryCount) entryLimit in
       rw (number-kept entryCount c) (rows-same (entryIn t) (entryIn s) (cap (word s entryCount) entryLimit) (λ i h. entry-same s t i still (λ j p q. v j (omega arith) (omega arith))))
 
-  pub waiting-kept : Still s t → apart (32, 36) rs ≡ true → apart (2588772, 2785380) rs ≡ true → waitingOf t ≡ waitingOf s
+  pub waiting-kept : Still s t → apart (32, 36) rs ≡ true → apart (waitingAt, setsAt) rs ≡ true → waitingOf t ≡ waitingOf s
   unfolding waitingOf
   waiting-kept still c e =
-      let v = same-on 2588772 2785380 w e in
+      let v = same-on waitingAt setsAt w e in
       let l = cap-lim (word s waitingCount) waitingLimit in
-      rw (number-kept waitingCount c) (rows-same (λ i. itemAt t (waitingAt + 12 * i)) (λ i. itemAt s (waitingAt + 12 * i)) (cap (word s waitingCount) waitingLimit) (λ i h. item-same s t (waitingAt + 12 * i) still (λ j p q. v j (omega arith) (omega arith))))
+      rw (number-kept waitingCount c) (rows-same (λ i. itemAt t (waitingAt + itemRow * i)) (λ i. itemAt s (waitingAt + itemRow * i)) (cap (word s waitingCount) waitingLimit) (λ i h. item-same s t (waitingAt + itemRow * i) still (λ j p q. v j (omega arith) (omega arith))))
 
-  pub order-kept : apart (40, 44) rs ≡ true → apart (2981988, 2998372) rs ≡ true → orderOf t ≡ orderOf s
+  pub order-kept : apart (40, 44) rs ≡ true → apart (runAt, sheetAt) rs ≡ true → orderOf t ≡ orderOf s
   unfolding orderOf
   order-kept c e =
-      let v = same-on 2981988 2998372 w e in
+      let v = same-on runAt sheetAt w e in
       let l = cap-lim (word s entryCount) entryLimit in
       rw (number-kept entryCount c) (rows-same (λ i. word t (runAt + 4 * i)) (λ i. word s (runAt + 4 * i)) (cap (word s entryCount) entryLimit) (λ i h. v (runAt + 4 * i) (omega arith) (omega arith)))

@@ -2,7 +2,7 @@
 use mathlib.Core.Path.{_≡_, refl, sym, ap, _∙_}
 use mathlib.Core.Logic.{_⊎_, ⊎-elim}
 use mathlib.Core.Bool.{Bool, true, false}
-use mathlib.Core.List.{List, [], _∷_, _++_}
+use mathlib.Core.List.{List, [], _∷_, _++_, append-nil, append-assoc}
 use Prim.Native.Nat.{ℕ, zero, suc, _+_, _-_, _*_, _≤_, _<_}
 use native.Mathlib.Omega.{arith}
 use lib.ListN.{length, getD, take, drop, set, length-append, List·getD-append, List·getD-eq-default}
@@ -77,18 +77,10 @@ rows-take f (suc n) m h = go (rows-take f n m) (leb m n) refl
 -- the first n rows and m more
 pub rows-join : {A : Type 0} (f : ℕ → A) (n m : ℕ) → rowsTo f (n + m) ≡ rowsTo f n ++ rowsTo (λ i. f (n + i)) m
 unfolding rowsTo
-rows-join f n zero = let e : n + 0 ≡ n = omega arith in rw e (sym (append-end (rowsTo f n)))
-  where
-    append-end : {B : Type 0} (xs : List B) → xs ++ [] ≡ xs
-    append-end [] = refl
-    append-end (x ∷ xs) = ap (λ ys. x ∷ ys) (append-end xs)
+rows-join f n zero = let e : n + 0 ≡ n = omega arith in rw e (sym (append-nil (rowsTo f n)))
 rows-join f n (suc m) =
     let e : n + suc m ≡ suc (n + m) = omega arith in
-    rw (e, rows-join f n m) (append-snoc-2 (rowsTo f n) (rowsTo (λ i. f (n + i)) m) (f (n + m)))
-  where
-    append-snoc-2 : {B : Type 0} (xs ys : List B) (z : B) → (xs ++ ys) ++ (z ∷ []) ≡ xs ++ (ys ++ (z ∷ []))
-    append-snoc-2 [] ys z = refl
-    append-snoc-2 (x ∷ xs) ys z = ap (λ us. x ∷ us) (append-snoc-2 xs ys z)
+    rw (e, rows-join f n m) (append-assoc (rowsTo f n) (rowsTo (λ i. f (n + i)) m) ((f (n + m)) ∷ []))
 
 -- the rows after the first n
 pub rows-drop : {A : Type 0} (f : ℕ → A) (n m : ℕ) → drop n (rowsTo f (n + m)) ≡ rowsTo (λ i. f (n + i)) m
@@ -154,14 +146,6 @@ cap-lim n l = go (leb n l) refl
     go : (b : Bool) → leb n l ≡ b → pick (leb n l) n l ≤ l
     go true e = rw e (leb-true n l e)
     go false e = rw e (omega arith)
-
-pub cap-more : (n l i : ℕ) → i < l → i < n → i < cap n l
-unfolding cap
-cap-more n l i h k = go (leb n l) refl
-  where
-    go : (b : Bool) → leb n l ≡ b → i < pick (leb n l) n l
-    go true e = rw e k
-    go false e = rw e h
 
 pub cap-less : (n l i : ℕ) → (l ≤ i) ⊎ (n ≤ i) → cap n l ≤ i
 unfolding cap

@@ -7,7 +7,7 @@ use lib.Dec.{eqb, leb}
 use Rattle.words.specs.Words.{word}
 use Rattle.spec.specs.Basics.{Text, ExprId, NameId, if_then_else_}
 use Rattle.spec.specs.Module.{Pointer, float, integer, string, path, uri, InterpolPart, literalPart, interpol, BindingValue, expr, inherit, inheritFrom, Bindings, Pat, Expr, missing, apply, ifThenElse, literal, lambda, letIn, list, binOp, attrSet, unaryOp, reference, select, hasAttr, withIn, assertIn, stringInterpolation, pathInterpolation, Made}
-use Rattle.layout.specs.Layout.{exprsAt, exprPointersAt, itemsAt, itemLimit}
+use Rattle.layout.specs.Layout.{itemLimit, exprRow, pointerRow, itemRow, exprsAt, exprPointersAt, itemsAt}
 use Rattle.layout.specs.Rows.{cap, rowsFrom}
 use Rattle.layout.specs.Texts.{textIn}
 
@@ -39,7 +39,7 @@ unfoldable pub itemAt : List ℕ → ℕ → Item
 itemAt s at = itemOf s (word s at) (word s (at + 4)) (word s (at + 8))
 
 unfoldable pub itemIn : List ℕ → ℕ → Item
-itemIn s j = itemAt s (itemsAt + 12 * j)
+itemIn s j = itemAt s (itemsAt + itemRow * j)
 
 -- ---- what lists are made of items; those that do not fit are passed over
 unfoldable pub children : List Item → List ExprId
@@ -141,17 +141,17 @@ pointerOr sort p = if eqb sort 0 then none else some p
 
 -- ---- the row with the number e
 unfoldable pub firstItem : List ℕ → ExprId → ℕ
-firstItem s e = word s (exprsAt + 20 * e)
+firstItem s e = word s (exprsAt + exprRow * e)
 
 unfoldable pub itemsOf : List ℕ → ExprId → List Item
 itemsOf s e = rowsFrom (itemIn s) (cap (firstItem s e) itemLimit) (cap (firstItem s (e + 1)) itemLimit)
 
 unfoldable pub sortOf : List ℕ → ExprId → ℕ
-sortOf s e = word s (exprsAt + 20 * e + 4)
+sortOf s e = word s (exprsAt + exprRow * e + 4)
 
 unfoldable pub madeIn : List ℕ → ExprId → Made
 madeIn s e =
     record {
-      expr = exprOf s (sortOf s e) (word s (exprsAt + 20 * e + 8)) (word s (exprsAt + 20 * e + 12)) (word s (exprsAt + 20 * e + 16)) (itemsOf s e);
-      pointer = pointerOr (sortOf s e) (pointerAt s (exprPointersAt + 12 * e));
+      expr = exprOf s (sortOf s e) (word s (exprsAt + exprRow * e + 8)) (word s (exprsAt + exprRow * e + 12)) (word s (exprsAt + exprRow * e + 16)) (itemsOf s e);
+      pointer = pointerOr (sortOf s e) (pointerAt s (exprPointersAt + pointerRow * e));
     }

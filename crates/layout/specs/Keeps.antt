@@ -8,14 +8,14 @@ use Rattle.spec.specs.Basics.{ExprId, NameId, ScopeId, if_then_else_, maybe}
 use Rattle.spec.specs.Scopes.{ScopeKind, definitions, withExpr, Scope, Scopes}
 use Rattle.spec.specs.Answer.{Answer, unresolved, definition, builtin, withs, chain, withsOf}
 use Rattle.spec.specs.Kept.{Kept}
-use Rattle.layout.specs.Layout.{exprCount, nameCount, scopeCount, spentPlace, usesAt, scopesAt, enteredAt, firstsAt, referencesAt, exprLimit, nameLimit, scopeLimit, referenceLimit}
+use Rattle.layout.specs.Layout.{exprLimit, nameLimit, scopeLimit, referenceLimit, useRow, scopeRow, exprCount, nameCount, scopeCount, spentPlace, usesAt, scopesAt, enteredAt, firstsAt, referencesAt}
 use Rattle.layout.specs.Rows.{cap, rowsTo, rowsFrom, raised}
 use Rattle.layout.specs.Exprs.{sortOf}
 use Rattle.layout.specs.States.{moduleIn}
 
 -- ---- scopes
 unfoldable pub firstEntered : List ℕ → ScopeId → ℕ
-firstEntered s i = word s (scopesAt + 12 * i)
+firstEntered s i = word s (scopesAt + scopeRow * i)
 
 unfoldable pub enteredOf : List ℕ → ScopeId → List NameId
 enteredOf s i = rowsFrom (λ j. word s (enteredAt + 4 * j)) (cap (firstEntered s i) nameLimit) (cap (firstEntered s (i + 1)) nameLimit)
@@ -27,12 +27,12 @@ kindOfScope (some e) xs = withExpr e
 unfoldable pub scopeIn : List ℕ → ScopeId → Scope
 scopeIn s i =
     record {
-      parent = raised (word s (scopesAt + 12 * i + 4));
-      kind = kindOfScope (raised (word s (scopesAt + 12 * i + 8))) (enteredOf s i);
+      parent = raised (word s (scopesAt + scopeRow * i + 4));
+      kind = kindOfScope (raised (word s (scopesAt + scopeRow * i + 8))) (enteredOf s i);
     }
 
 unfoldable pub scopeOf : List ℕ → ExprId → Option ScopeId
-scopeOf s e = raised (word s (usesAt + 8 * e))
+scopeOf s e = raised (word s (usesAt + useRow * e))
 
 unfoldable pub scopesIn : List ℕ → Scopes
 scopesIn s =
@@ -55,7 +55,7 @@ answerOf w scope n =
 
 -- of a Reference alone
 unfoldable pub answerIn : List ℕ → ExprId → Option Answer
-answerIn s e = if eqb (sortOf s e) 21 then some (answerOf (scopesIn s) (scopeOf s e) (word s (usesAt + 8 * e + 4))) else none
+answerIn s e = if eqb (sortOf s e) 21 then some (answerOf (scopesIn s) (scopeOf s e) (word s (usesAt + useRow * e + 4))) else none
 
 -- ---- kept references
 unfoldable pub firstReference : List ℕ → NameId → ℕ

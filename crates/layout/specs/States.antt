@@ -10,7 +10,7 @@ use Rattle.spec.specs.Module.{Pointer, BindingValue, expr, inherit, inheritFrom
 use Rattle.spec.specs.State.{MergingSet, MergingEntry, static, source, dynamic, State, state}
 use Rattle.spec.specs.Lower.{moduleOf}
 use Rattle.module.specs.Kinds.{nameKindOf}
-use Rattle.layout.specs.Layout.{exprCount, nameCount, diagnosticCount, lostCount, entryPlace, waitingCount, setCount, entryCount, namesAt, namePointersAt, diagnosticsAt, lostAt, waitingAt, setsAt, entriesAt, runAt, exprLimit, nameLimit, diagnosticLimit, waitingLimit, setLimit, entryLimit}
+use Rattle.layout.specs.Layout.{exprLimit, nameLimit, diagnosticLimit, waitingLimit, setLimit, entryLimit, pointerRow, itemRow, nameRow, diagnosticRow, setRow, entryRow, exprCount, nameCount, diagnosticCount, lostCount, entryPlace, waitingCount, setCount, entryCount, namesAt, namePointersAt, diagnosticsAt, lostAt, waitingAt, setsAt, entriesAt, runAt}
 use Rattle.layout.specs.Rows.{cap, rowsTo, marked}
 use Rattle.layout.specs.Texts.{textIn}
 use Rattle.layout.specs.Exprs.{Item, itemAt, pointerAt, firstItem, madeIn}
@@ -19,22 +19,22 @@ use Rattle.layout.specs.Exprs.{Item, itemAt, pointerAt, firstItem, madeI
 unfoldable pub nameIn : List ℕ → NameId → Name
 nameIn s x =
     record {
-      text = textIn s (word s (namesAt + 8 * x));
-      kind = nameKindOf (word s (namesAt + 8 * x + 4));
-      pointer = pointerAt s (namePointersAt + 12 * x);
+      text = textIn s (word s (namesAt + nameRow * x));
+      kind = nameKindOf (word s (namesAt + nameRow * x + 4));
+      pointer = pointerAt s (namePointersAt + pointerRow * x);
     }
 
 unfoldable pub diagnosticIn : List ℕ → ℕ → DuplicateKey
 diagnosticIn s i =
     record {
-      key = textIn s (word s (diagnosticsAt + 28 * i));
-      first = pointerAt s (diagnosticsAt + 28 * i + 4);
-      second = pointerAt s (diagnosticsAt + 28 * i + 16);
+      key = textIn s (word s (diagnosticsAt + diagnosticRow * i));
+      first = pointerAt s (diagnosticsAt + diagnosticRow * i + 4);
+      second = pointerAt s (diagnosticsAt + diagnosticRow * i + 16);
     }
 
 -- ---- sets that are being merged
 unfoldable pub setIn : List ℕ → ℕ → MergingSet
-setIn s i = record { pointer = pointerAt s (setsAt + 16 * i); nameKind = nameKindOf (word s (setsAt + 16 * i + 12)) }
+setIn s i = record { pointer = pointerAt s (setsAt + setRow * i); nameKind = nameKindOf (word s (setsAt + setRow * i + 12)) }
 
 -- sort 0 is no value
 unfoldable pub valueOf : ℕ → ExprId → Option BindingValue
@@ -52,7 +52,7 @@ entryOf s tag set a b nested sort e =
 
 unfoldable pub entryIn : List ℕ → ℕ → MergingEntry
 entryIn s i =
-    let at = entriesAt + 32 * i in
+    let at = entriesAt + entryRow * i in
     entryOf s (word s at) (word s (at + 4)) (word s (at + 8)) (word s (at + 12)) (word s (at + 16)) (word s (at + 20)) (word s (at + 24))
 
 -- ---- all of it
@@ -66,7 +66,7 @@ unfoldable pub diagnosticsOf : List ℕ → List DuplicateKey
 diagnosticsOf s = rowsTo (diagnosticIn s) (cap (word s diagnosticCount) diagnosticLimit)
 
 unfoldable pub lostOf : List ℕ → List Pointer
-lostOf s = rowsTo (λ i. pointerAt s (lostAt + 12 * i)) (cap (word s lostCount) diagnosticLimit)
+lostOf s = rowsTo (λ i. pointerAt s (lostAt + pointerRow * i)) (cap (word s lostCount) diagnosticLimit)
 
 unfoldable pub setsOf : List ℕ → List MergingSet
 setsOf s = rowsTo (setIn s) (cap (word s setCount) setLimit)
@@ -82,7 +82,7 @@ moduleIn s = moduleOf (word s entryPlace) (stateOf s)
 
 -- the items that wait for their expression
 unfoldable pub waitingOf : List ℕ → List Item
-waitingOf s = rowsTo (λ i. itemAt s (waitingAt + 12 * i)) (cap (word s waitingCount) waitingLimit)
+waitingOf s = rowsTo (λ i. itemAt s (waitingAt + itemRow * i)) (cap (word s waitingCount) waitingLimit)
 
 -- how many items are in use: where those of the next expression will begin
 unfoldable pub usedOf : List ℕ → ℕ

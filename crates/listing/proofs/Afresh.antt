@@ -6,8 +6,8 @@ use Rattle.spec.specs.Module.{Module}
 use Rattle.spec.specs.Scopes.{Scopes}
 use Rattle.spec.specs.Answer.{references}
 use Rattle.spec.specs.Kept.{tabulate, answersAfresh, referencesAfresh, answeredWith}
-use Rattle.spec.proofs.ListLaws.{tabulate-same}
-use Rattle.spec.proofs.Incremental.{Afresh, references-are}
+use Rattle.spec.proofs.general.ListLaws.{tabulate-same}
+use Rattle.spec.proofs.change.Incremental.{Afresh, references-are}
 use Rattle.layout.specs.Keeps.{keptIn}
 use Rattle.kept.specs.References.{withReferences}
 use Rattle.listing.specs.Lists.{Lists}

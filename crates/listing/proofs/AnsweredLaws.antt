@@ -15,13 +15,14 @@ use Rattle.words.specs.Order.{pick}
 use Rattle.words.specs.Words.{word}
 use Rattle.spec.specs.Answer.{Answer, unresolved, definition, builtin, withs, means}
 use Rattle.spec.specs.Kept.{keptAnswer, answeredWith}
-use Rattle.layout.specs.Layout.{exprCount, exprLimit}
+use Rattle.layout.specs.Layout.{exprLimit, referenceLimit, exprCount}
 use Rattle.layout.specs.Rows.{cap, rowsTo}
 use Rattle.layout.specs.Keeps.{answerIn, keptIn}
 use Rattle.layout.proofs.RowLaws.{length-rows, cap-lim}
 use Rattle.kept.specs.References.{listedBy}
 use Rattle.kept.proofs.ReferenceLaws.{listed-more}
-use Rattle.listing.specs.Links.{meant, answeredFrom}
+use Rattle.answer.specs.Answers.{meant}
+use Rattle.listing.specs.Links.{answeredFrom}
 
 -- ---- numbers from lo on, before hi
 abbrev pub Within : ℕ → ℕ → List ℕ → Type 0
@@ -46,14 +47,14 @@ pub length-answers : (s : List ℕ) → length (keptIn s .answers) ≡ cap (word
 unfolding keptIn
 length-answers s = length-rows (answerIn s) (cap (word s exprCount) exprLimit)
 
-pub from-within : (s : List ℕ) (e x : ℕ) → e ≤ 16384 → Within e 16384 (answeredFrom s e x)
+pub from-within : (s : List ℕ) (e x : ℕ) → e ≤ exprLimit → Within e exprLimit (answeredFrom s e x)
 unfolding answeredFrom
 from-within s e x h =
     let as′ = keptIn s .answers in
     let l = length-answers s in
     let c = cap-lim (word s exprCount) exprLimit in
     let d = length-drop e as′ in
-    answered-within x e 16384 (drop e as′) (omega arith)
+    answered-within x e exprLimit (drop e as′) (omega arith)
 
 -- each of them is an expression in use
 pub from-used : (s : List ℕ) (x k : ℕ) → k < length (answeredFrom s 0 x) → getD (answeredFrom s 0 x) k 0 < cap (word s exprCount) exprLimit
@@ -70,7 +71,7 @@ from-used s x k h =
     within-at lo hi (e ∷ es) w (suc i) q = within-at lo hi es (w .1) i (omega arith)
 
 -- past the last expression nothing is answered
-pub from-end : (s : List ℕ) (e x : ℕ) → cap (word s 0) 16384 ≤ e → answeredFrom s e x ≡ []
+pub from-end : (s : List ℕ) (e x : ℕ) → cap (word s exprCount) exprLimit ≤ e → answeredFrom s e x ≡ []
 unfolding answeredFrom answeredWith
 from-end s e x h =
     let z : length (keptIn s .answers) ≤ e = rw (length-answers s) h in
@@ -114,7 +115,7 @@ module _ (s : List ℕ) (e : ℕ) where
       go : (b : Bool) → ltb e (length (keptIn s .answers)) ≡ b → answeredFrom s e x ≡ answeredFrom s (e + 1) x
       go true q = from-step x (ltb-true e (length (keptIn s .answers)) q) ∙ rw h
       go false q =
-          let l : cap (word s 0) 16384 ≤ e = rw (length-answers s) at (ltb-false e (length (keptIn s .answers)) q) in
+          let l : cap (word s exprCount) exprLimit ≤ e = rw (length-answers s) at (ltb-false e (length (keptIn s .answers)) q) in
           from-end s e x l ∙ sym (from-end s (e + 1) x (omega arith))
 
   pub from-none : (x : ℕ) → meant (keptAnswer (keptIn s) e) ≡ none → answeredFrom s e x ≡ answeredFrom s (e + 1) x
@@ -193,7 +194,7 @@ answered-few e (a ∷ as′) n =
     omega arith
 
 -- THEOREM. The references of all names together fit.
-pub references-fit : (s : List ℕ) (x : ℕ) → listedBy (rowsTo (answeredFrom s 0) x) + length (answeredFrom s 0 x) ≤ 16384
+pub references-fit : (s : List ℕ) (x : ℕ) → listedBy (rowsTo (answeredFrom s 0) x) + length (answeredFrom s 0 x) ≤ referenceLimit
 unfolding answeredFrom rowsTo
 references-fit s x =
     let as′ = keptIn s .answers in

@@ -1,4 +1,3 @@
-pub mod MeantLaws
 pub mod AnsweredLaws
 pub mod LinkLaws
 pub mod ListingLaws

@@ -12,15 +12,15 @@ use borrow.Author.Tests.{eqb-true, eqb-false, ltb-true, ltb-false}
 use Rattle.words.specs.Words.{word, setWord}
 use Rattle.words.proofs.WordLaws.{word-lt, length-setWord, word-setWord-same, word-setWord-other}
 use Rattle.spec.specs.Kept.{keptAnswer}
-use Rattle.layout.specs.Layout.{Long}
+use Rattle.layout.specs.Layout.{exprLimit, nameLimit, exprCount, nameCount, exprsAt, exprPointersAt, usesAt, firstsAt, nextsAt, headsAt, setsAt, Long}
 use Rattle.layout.specs.Rows.{cap}
 use Rattle.layout.specs.Changes.{Range, Outside, Wrote, Still}
 use Rattle.layout.specs.Keeps.{keptIn}
-use Rattle.layout.proofs.Frames.{apart, same-on, wrote-none, wrote-then}
+use Rattle.layout.proofs.Frames.{apart, clear-of, same-on, wrote-none, wrote-then}
 use Rattle.layout.proofs.WriteLaws.{still-setWord, still-then}
-use Rattle.kept.proofs.ScopeLaws.{clear-of}
 use Rattle.kept.proofs.KeepFrames.{answers-kept}
-use Rattle.listing.specs.Links.{meant, linking, nextOf, headOf, Chained, answeredFrom, Linked, Unheaded, LinksOne, LinksAll, Links}
+use Rattle.answer.specs.Answers.{meant}
+use Rattle.listing.specs.Links.{linking, nextOf, headOf, Chained, answeredFrom, Linked, Unheaded, LinksOne, LinksAll, Links}
 use Rattle.listing.proofs.AnsweredLaws.{Within, from-within, from-end, from-none, from-else, from-own}
 
 -- ---- what stays linked
@@ -30,7 +30,7 @@ unfolding Chained
 chained-same s t lo hi at [] f w c = c
 chained-same s t lo hi at (e ∷ es) f w c = (c .0, rw (f e (w .0 .0) (w .0 .1)) (chained-same s t lo hi (nextOf s e) es f (w .1) (c .1)))
 
-module _ {rs : List Range} {s t : List ℕ} (w : Wrote rs s t) (c : apart (0, 4) rs ≡ true) (d : apart (20, 24) rs ≡ true) (a : apart (64, 327764) rs ≡ true) (u : apart (2310228, 2506848) rs ≡ true) where
+module _ {rs : List Range} {s t : List ℕ} (w : Wrote rs s t) (c : apart (0, 4) rs ≡ true) (d : apart (20, 24) rs ≡ true) (a : apart (exprsAt, exprPointersAt) rs ≡ true) (u : apart (usesAt, firstsAt) rs ≡ true) where
   -- where no answer is another
   pub answers-same : keptIn t .answers ≡ keptIn s .answers
   unfolding keptIn
@@ -41,41 +41,41 @@ module _ {rs : List Range} {s t : List ℕ} (w : Wrote rs s t) (c : apart (0, 4)
   from-same e x = rw answers-same
 
   -- and no link
-  module _ (v : apart (2588772, 2785380) rs ≡ true) where
-    pub next-same : (e : ℕ) → e < 16384 → nextOf t e ≡ nextOf s e
+  module _ (v : apart (nextsAt, setsAt) rs ≡ true) where
+    pub next-same : (e : ℕ) → e < exprLimit → nextOf t e ≡ nextOf s e
     unfolding nextOf
-    next-same e h = same-on 2588772 2785380 w v (2588772 + 4 * e) (omega arith) (omega arith)
+    next-same e h = same-on nextsAt setsAt w v (nextsAt + 4 * e) (omega arith) (omega arith)
 
-    head-same : (x : ℕ) → x < 4096 → headOf t x ≡ headOf s x
+    head-same : (x : ℕ) → x < nameLimit → headOf t x ≡ headOf s x
     unfolding headOf
-    head-same x h = same-on 2588772 2785380 w v (2654308 + 4 * x) (omega arith) (omega arith)
+    head-same x h = same-on nextsAt setsAt w v (headsAt + 4 * x) (omega arith) (omega arith)
 
-    pub still-chained : (at : ℕ) (es : List ℕ) → Within 0 16384 es → Chained s at es → Chained t at es
-    still-chained at es i p = chained-same s t 0 16384 at es (λ e y z. next-same e z) i p
+    pub still-chained : (at : ℕ) (es : List ℕ) → Within 0 exprLimit es → Chained s at es → Chained t at es
+    still-chained at es i p = chained-same s t 0 exprLimit at es (λ e y z. next-same e z) i p
 
-    pub still-linked : (n : ℕ) → n ≤ 4096 → Linked n 0 s → Linked n 0 t
+    pub still-linked : (n : ℕ) → n ≤ nameLimit → Linked n 0 s → Linked n 0 t
     still-linked n h p = record { chain = λ x k. rw (head-same x (omega arith), from-same 0 x) (still-chained (headOf s x) (answeredFrom s 0 x) (from-within s 0 x (omega arith)) (p .chain x k)) }
 
 -- ---- clearing
 pub unheaded-none : (s : List ℕ) → Unheaded 0 s s
 unheaded-none s = record { wrote = wrote-none linking s; still = record { same = refl; used = refl }; gone = λ x h. absurd (omega arith) }
 
-pub unheaded-more : (s u t : List ℕ) (x : ℕ) → Long s → x < 4096 → Unheaded x s u → t ≡ setWord u (2654308 + 4 * x) 0 → Unheaded (x + 1) s t
+pub unheaded-more : (s u t : List ℕ) (x : ℕ) → Long s → x < nameLimit → Unheaded x s u → t ≡ setWord u (headsAt + 4 * x) 0 → Unheaded (x + 1) s t
 unfolding Outside linking headOf
 unheaded-more s u t x l h d et =
-    let at = 2654308 + 4 * x in
+    let at = headsAt + 4 * x in
     let other : (j : ℕ) → (j + 4 ≤ at) ⊎ (at + 4 ≤ j) → word t j ≡ word u j = λ j o. rw et (word-setWord-other u at 0 j o) in
     record {
-      wrote = wrote-then (d .wrote) (record { size = rw et (length-setWord u at 0); other = λ j o. other j (clear-of at 4 2588772 2785380 j (omega arith) (omega arith) (o .0)) });
+      wrote = wrote-then (d .wrote) (record { size = rw et (length-setWord u at 0); other = λ j o. other j (clear-of at 4 nextsAt setsAt j (omega arith) (omega arith) (o .0)) });
       still = still-then (d .still) (rw et (still-setWord u at 0 (omega arith) (λ z. omega arith)));
       gone = λ y z. gone y (ltb y x) refl z;
     }
   where
-    gone : (y : ℕ) (b : Bool) → ltb y x ≡ b → y < x + 1 → word t (2654308 + 4 * y) ≡ 0
-    gone y true q z = let m = ltb-true y x q in rw et (word-setWord-other u (2654308 + 4 * x) 0 (2654308 + 4 * y) (inl (omega arith)) ∙ d .gone y m)
+    gone : (y : ℕ) (b : Bool) → ltb y x ≡ b → y < x + 1 → word t (headsAt + 4 * y) ≡ 0
+    gone y true q z = let m = ltb-true y x q in rw et (word-setWord-other u (headsAt + 4 * x) 0 (headsAt + 4 * y) (inl (omega arith)) ∙ d .gone y m)
     gone y false q z =
         let m : y ≡ x = omega (arith, ltb-false y x q) in
-        rw (m, et) (word-setWord-same u (2654308 + 4 * x) 0 (omega (arith, d .wrote .size)) (omega arith))
+        rw (m, et) (word-setWord-same u (headsAt + 4 * x) 0 (omega (arith, d .wrote .size)) (omega arith))
 
 pub unheaded-done : (s t : List ℕ) (x n : ℕ) → Unheaded x s t → x ≤ n → n ≤ x → Unheaded n s t
 unheaded-done s t x n d a b = let q : x ≡ n = omega arith in rw q at d
@@ -99,59 +99,59 @@ links-past s n e y m k =
     }
 
 -- that means one of them
-module _ (s u t : List ℕ) (n e x head : ℕ) (l : Long s) (he : e < 16384) (hn : n ≤ 4096) (m : meant (keptAnswer (keptIn s) e) ≡ some x) (hx : x < n)
-    (eh : head ≡ word s (2654308 + 4 * x)) (eu : u ≡ setWord s (2588772 + 4 * e) head) (et : t ≡ setWord u (2654308 + 4 * x) (e + 1)) where
+module _ (s u t : List ℕ) (n e x head : ℕ) (l : Long s) (he : e < exprLimit) (hn : n ≤ nameLimit) (m : meant (keptAnswer (keptIn s) e) ≡ some x) (hx : x < n)
+    (eh : head ≡ word s (headsAt + 4 * x)) (eu : u ≡ setWord s (nextsAt + 4 * e) head) (et : t ≡ setWord u (headsAt + 4 * x) (e + 1)) where
   size-u : length u ≡ length s
-  size-u = rw eu (length-setWord s (2588772 + 4 * e) head)
+  size-u = rw eu (length-setWord s (nextsAt + 4 * e) head)
 
-  link-other : (j : ℕ) → (j + 4 ≤ 2588772 + 4 * e) ⊎ (2588772 + 4 * e + 4 ≤ j) → (j + 4 ≤ 2654308 + 4 * x) ⊎ (2654308 + 4 * x + 4 ≤ j) → word t j ≡ word s j
+  link-other : (j : ℕ) → (j + 4 ≤ nextsAt + 4 * e) ⊎ (nextsAt + 4 * e + 4 ≤ j) → (j + 4 ≤ headsAt + 4 * x) ⊎ (headsAt + 4 * x + 4 ≤ j) → word t j ≡ word s j
   link-other j o q =
-      let a : word u j ≡ word s j = rw eu (word-setWord-other s (2588772 + 4 * e) head j o) in
-      rw et (word-setWord-other u (2654308 + 4 * x) (e + 1) j q ∙ a)
+      let a : word u j ≡ word s j = rw eu (word-setWord-other s (nextsAt + 4 * e) head j o) in
+      rw et (word-setWord-other u (headsAt + 4 * x) (e + 1) j q ∙ a)
 
   link-wrote : Wrote linking s t
   unfolding linking Outside
   link-wrote =
       record {
-        size = rw et (length-setWord u (2654308 + 4 * x) (e + 1) ∙ size-u);
-        other = λ j o. link-other j (clear-of (2588772 + 4 * e) 4 2588772 2785380 j (omega arith) (omega arith) (o .0)) (clear-of (2654308 + 4 * x) 4 2588772 2785380 j (omega arith) (omega arith) (o .0));
+        size = rw et (length-setWord u (headsAt + 4 * x) (e + 1) ∙ size-u);
+        other = λ j o. link-other j (clear-of (nextsAt + 4 * e) 4 nextsAt setsAt j (omega arith) (omega arith) (o .0)) (clear-of (headsAt + 4 * x) 4 nextsAt setsAt j (omega arith) (omega arith) (o .0));
       }
 
   link-still : Still s t
-  link-still = still-then {u = u} (rw eu (still-setWord s (2588772 + 4 * e) head (omega arith) (λ z. omega arith))) (rw et (still-setWord u (2654308 + 4 * x) (e + 1) (omega arith) (λ z. omega arith)))
+  link-still = still-then {u = u} (rw eu (still-setWord s (nextsAt + 4 * e) head (omega arith) (λ z. omega arith))) (rw et (still-setWord u (headsAt + 4 * x) (e + 1) (omega arith) (λ z. omega arith)))
 
   link-from : (k y : ℕ) → answeredFrom t k y ≡ answeredFrom s k y
   unfolding linking
   link-from k y = from-same link-wrote refl refl refl refl k y
 
   -- the links of those after e, of e, and the beginnings
-  later-next : (k : ℕ) → e + 1 ≤ k → k < 16384 → nextOf t k ≡ nextOf s k
+  later-next : (k : ℕ) → e + 1 ≤ k → k < exprLimit → nextOf t k ≡ nextOf s k
   unfolding nextOf
-  later-next k a b = link-other (2588772 + 4 * k) (inr (omega arith)) (inl (omega arith))
+  later-next k a b = link-other (nextsAt + 4 * k) (inr (omega arith)) (inl (omega arith))
 
   own-next : nextOf t e ≡ headOf s x
   unfolding nextOf headOf
   own-next =
-      let f : head < 2 ^ 32 = rw eh (word-lt s (2654308 + 4 * x)) in
-      let a : word u (2588772 + 4 * e) ≡ head = rw eu (word-setWord-same s (2588772 + 4 * e) head (omega arith) f) in
-      let b : word t (2588772 + 4 * e) ≡ word u (2588772 + 4 * e) = rw et (word-setWord-other u (2654308 + 4 * x) (e + 1) (2588772 + 4 * e) (inl (omega arith))) in
+      let f : head < 2 ^ 32 = rw eh (word-lt s (headsAt + 4 * x)) in
+      let a : word u (nextsAt + 4 * e) ≡ head = rw eu (word-setWord-same s (nextsAt + 4 * e) head (omega arith) f) in
+      let b : word t (nextsAt + 4 * e) ≡ word u (nextsAt + 4 * e) = rw et (word-setWord-other u (headsAt + 4 * x) (e + 1) (nextsAt + 4 * e) (inl (omega arith))) in
       b ∙ a ∙ eh
 
   own-head : headOf t x ≡ e + 1
   unfolding headOf
-  own-head = rw et (word-setWord-same u (2654308 + 4 * x) (e + 1) (omega (arith, size-u)) (omega arith))
+  own-head = rw et (word-setWord-same u (headsAt + 4 * x) (e + 1) (omega (arith, size-u)) (omega arith))
 
-  other-head : (y : ℕ) → (y ≡ x → ⊥) → y < 4096 → headOf t y ≡ headOf s y
+  other-head : (y : ℕ) → (y ≡ x → ⊥) → y < nameLimit → headOf t y ≡ headOf s y
   unfolding headOf
   other-head y ne h = go (ltb y x) refl
     where
-      go : (b : Bool) → ltb y x ≡ b → word t (2654308 + 4 * y) ≡ word s (2654308 + 4 * y)
-      go true q = link-other (2654308 + 4 * y) (inr (omega arith)) (inl (omega (arith, ltb-true y x q)))
-      go false q = link-other (2654308 + 4 * y) (inr (omega arith)) (inr (omega (arith, ltb-false y x q)))
+      go : (b : Bool) → ltb y x ≡ b → word t (headsAt + 4 * y) ≡ word s (headsAt + 4 * y)
+      go true q = link-other (headsAt + 4 * y) (inr (omega arith)) (inl (omega (arith, ltb-true y x q)))
+      go false q = link-other (headsAt + 4 * y) (inr (omega arith)) (inr (omega (arith, ltb-false y x q)))
 
   -- what was linked after e stays so
   later : (y : ℕ) → Chained s (headOf s y) (answeredFrom s (e + 1) y) → Chained t (headOf s y) (answeredFrom s (e + 1) y)
-  later y p = chained-same s t (e + 1) 16384 (headOf s y) (answeredFrom s (e + 1) y) later-next (from-within s (e + 1) y (omega arith)) p
+  later y p = chained-same s t (e + 1) exprLimit (headOf s y) (answeredFrom s (e + 1) y) later-next (from-within s (e + 1) y (omega arith)) p
 
   linked : Linked n (e + 1) s → (y : ℕ) → y < n → Chained t (headOf t y) (answeredFrom t e y)
   unfolding Chained
@@ -174,10 +174,10 @@ pub record Linking (n left : ℕ) (s t : List ℕ) : Type 0 where
   pub still : Still s t
   pub links : ((x : ℕ) → x < n → headOf s x ≡ 0) → Linked n left t
 
-pub linking-none : (s : List ℕ) (n count k : ℕ) → k ≡ word s 0 → count ≡ cap k 16384 → Linking n count s s
+pub linking-none : (s : List ℕ) (n count k : ℕ) → k ≡ word s exprCount → count ≡ cap k exprLimit → Linking n count s s
 unfolding Chained
 linking-none s n count k ek e =
-    let h : cap (word s 0) 16384 ≤ count = rw (e, ek) (omega arith) in
+    let h : cap (word s exprCount) exprLimit ≤ count = rw (e, ek) (omega arith) in
     record {
       wrote = wrote-none linking s;
       still = record { same = refl; used = refl };
@@ -196,7 +196,7 @@ linking-more s u t n left h d o =
 pub linking-done : (s t : List ℕ) (n left : ℕ) → Linking n left s t → left ≤ 0 → LinksAll n s t
 linking-done s t n left d h = let q : left ≡ 0 = omega arith in record { wrote = d .wrote; still = d .still; links = rw q at (d .links) }
 
-pub links-every : (s u t : List ℕ) (k n : ℕ) → k ≡ word s 4 → n ≡ cap k 4096 → Unheaded n s u → LinksAll n u t → Links s t
+pub links-every : (s u t : List ℕ) (k n : ℕ) → k ≡ word s nameCount → n ≡ cap k nameLimit → Unheaded n s u → LinksAll n u t → Links s t
 links-every s u t k n ek en h l =
-    let e : n ≡ cap (word s 4) 4096 = rw ek at en in
+    let e : n ≡ cap (word s nameCount) nameLimit = rw ek at en in
     record { wrote = wrote-then (h .wrote) (l .wrote); still = still-then (h .still) (l .still); linked = rw e at (l .links (h .gone)) }

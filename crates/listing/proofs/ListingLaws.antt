@@ -11,8 +11,8 @@ use borrow.Author.Tests.{ltb-true, ltb-false}
 use Rattle.words.specs.Words.{word}
 use Rattle.spec.specs.Kept.{tabulate, answeredWith}
 use Rattle.spec.specs.Lower.{moduleOf}
-use Rattle.spec.proofs.Sums.{compared}
-use Rattle.layout.specs.Layout.{exprCount, nameCount, exprLimit, nameLimit, referencesAt}
+use Rattle.spec.proofs.general.Sums.{compared}
+use Rattle.layout.specs.Layout.{exprLimit, nameLimit, referenceLimit, exprCount, nameCount, referencesAt, nextsAt, headsAt}
 use Rattle.layout.specs.Rows.{cap, rowsTo, rowsFrom}
 use Rattle.layout.specs.Changes.{Range, Outside, Wrote, Still}
 use Rattle.layout.specs.States.{nameIn, namesOf, stateOf, moduleIn}
@@ -24,7 +24,7 @@ use Rattle.kept.specs.References.{listing, listedBy, listsTo, waitingFor, Liste
 use Rattle.kept.proofs.KeepFrames.{module-kept, scopes-kept, answers-kept}
 use Rattle.kept.proofs.ReferenceLaws.{relisted, not-listing}
 use Rattle.listing.specs.Links.{linking, nextOf, headOf, Chained, answeredFrom, Linked, Links}
-use Rattle.listing.specs.Lists.{relisting, Lists, Ready, ListsOne, ListsAll}
+use Rattle.listing.specs.Lists.{relisting, Lists, Listable, ListsOne, ListsAll}
 use Rattle.listing.proofs.AnsweredLaws.{Within, from-within, from-used, references-fit}
 use Rattle.listing.proofs.LinkLaws.{from-same, next-same, still-chained, still-linked}
 
@@ -36,21 +36,21 @@ from-relisted : {s t : List ℕ} → Relisted s t → (e x : ℕ) → answeredFr
 unfolding listing
 from-relisted r e x = from-same (r .wrote) refl refl refl refl e x
 
-next-relisted : {s t : List ℕ} → Relisted s t → (e : ℕ) → e < 16384 → nextOf t e ≡ nextOf s e
+next-relisted : {s t : List ℕ} → Relisted s t → (e : ℕ) → e < exprLimit → nextOf t e ≡ nextOf s e
 unfolding listing
 next-relisted r e h = next-same (r .wrote) refl refl refl refl refl e h
 
-chain-relisted : {s t : List ℕ} → Relisted s t → (at : ℕ) (es : List ℕ) → Within 0 16384 es → Chained s at es → Chained t at es
+chain-relisted : {s t : List ℕ} → Relisted s t → (at : ℕ) (es : List ℕ) → Within 0 exprLimit es → Chained s at es → Chained t at es
 unfolding listing
 chain-relisted r at es w p = still-chained (r .wrote) refl refl refl refl refl at es w p
 
-linked-relisted : {s t : List ℕ} → Relisted s t → (n : ℕ) → n ≤ 4096 → Linked n 0 s → Linked n 0 t
+linked-relisted : {s t : List ℕ} → Relisted s t → (n : ℕ) → n ≤ nameLimit → Linked n 0 s → Linked n 0 t
 unfolding listing
 linked-relisted r n h p = still-linked (r .wrote) refl refl refl refl refl n h p
 
 -- the names' number is read before they are linked
-pub linked-now : (s a b : List ℕ) (k n : ℕ) → k ≡ word s 4 → n ≡ cap k 4096 → n ≤ 4096 → Links s a → Relisted a b → Linked n 0 b
-linked-now s a b k n ek en h l r = let e : n ≡ cap (word s 4) 4096 = rw ek at en in linked-relisted r n h (rw (← e) at (l .linked))
+pub linked-now : (s a b : List ℕ) (k n : ℕ) → k ≡ word s nameCount → n ≡ cap k nameLimit → n ≤ nameLimit → Links s a → Relisted a b → Linked n 0 b
+linked-now s a b k n ek en h l r = let e : n ≡ cap (word s nameCount) nameLimit = rw ek at en in linked-relisted r n h (rw (← e) at (l .linked))
 
 -- ---- the list of one name: i references wait, and the rest of them are linked from `next` on
 pub record Walking (x : ℕ) (s t : List ℕ) (next i : ℕ) : Type 0 where
@@ -59,10 +59,10 @@ pub record Walking (x : ℕ) (s t : List ℕ) (next i : ℕ) : Type 0 where
   pub lists : listsTo t x ≡ listsTo s x
   pub rest : List ℕ
   pub all : waitingFor t x i ++ rest ≡ answeredFrom s 0 x
-  pub low : Within 0 16384 rest
+  pub low : Within 0 exprLimit rest
   pub chain : Chained t next rest
 
-pub walking-none : (x : ℕ) (s : List ℕ) (next : ℕ) → Ready x s → next ≡ word s (2654308 + 4 * x) → Walking x s s next 0
+pub walking-none : (x : ℕ) (s : List ℕ) (next : ℕ) → Listable x s → next ≡ word s (headsAt + 4 * x) → Walking x s s next 0
 unfolding waitingFor headOf
 walking-none x s next r e =
     record {
@@ -87,21 +87,21 @@ walking-length x s t next i d =
     omega arith
 
 -- what is known of the next one
-pub record Next (x : ℕ) (s t : List ℕ) (next i : ℕ) : Type 0 where
-  pub low : next - 1 < 16384
+pub record NextLinked (x : ℕ) (s t : List ℕ) (next i : ℕ) : Type 0 where
+  pub low : next - 1 < exprLimit
   pub more : i < length (answeredFrom s 0 x)
-  pub few : i < 16384
-  pub waits : firstReference t x + i < 16384
+  pub few : i < exprLimit
+  pub waits : firstReference t x + i < referenceLimit
   pub rest : List ℕ
   pub all : waitingFor t x i ++ ((next - 1) ∷ rest) ≡ answeredFrom s 0 x
-  pub lows : Within 0 16384 rest
+  pub lows : Within 0 exprLimit rest
   pub chain : Chained t (nextOf t (next - 1)) rest
 
-pub walking-next : (x : ℕ) (s t : List ℕ) (next i : ℕ) → Ready x s → Walking x s t next i → (next ≡ 0 → ⊥) → Next x s t next i
+pub walking-next : (x : ℕ) (s t : List ℕ) (next i : ℕ) → Listable x s → Walking x s t next i → (next ≡ 0 → ⊥) → NextLinked x s t next i
 unfolding Chained
 walking-next x s t next i r d ne = go (d .rest) (d .all) (walking-length x s t next i d) (d .low) (d .chain)
   where
-    go : (es : List ℕ) → waitingFor t x i ++ es ≡ answeredFrom s 0 x → i + length es ≡ length (answeredFrom s 0 x) → Within 0 16384 es → Chained t next es → Next x s t next i
+    go : (es : List ℕ) → waitingFor t x i ++ es ≡ answeredFrom s 0 x → i + length es ≡ length (answeredFrom s 0 x) → Within 0 exprLimit es → Chained t next es → NextLinked x s t next i
     go [] a l w c = absurd (ne c)
     go (e ∷ es) a l w c =
         let k : next ≡ e + 1 = c .0 in
@@ -120,7 +120,7 @@ walking-next x s t next i r d ne = go (d .rest) (d .all) (walking-length x s t n
           chain = rw q at (c .1);
         }
 
-pub walking-more : (x : ℕ) (s t u : List ℕ) (next i after : ℕ) → Ready x s → Walking x s t next i → (next ≡ 0 → ⊥) → Refers x i (next - 1) t u → after ≡ word u (2588772 + 4 * (next - 1)) → Walking x s u after (i + 1)
+pub walking-more : (x : ℕ) (s t u : List ℕ) (next i after : ℕ) → Listable x s → Walking x s t next i → (next ≡ 0 → ⊥) → Refers x i (next - 1) t u → after ≡ word u (nextsAt + 4 * (next - 1)) → Walking x s u after (i + 1)
 unfolding nextOf
 walking-more x s t u next i after r d ne f e =
     let n = walking-next x s t next i r d ne in
@@ -145,11 +145,11 @@ walking-all x s t next i d z = go (d .rest) (d .all) (d .chain)
     go [] a c = sym (append-nil (waitingFor t x i)) ∙ a
     go (e ∷ es) a c = let k : next ≡ e + 1 = c .0 in absurd (omega arith)
 
-pub walking-done : (x : ℕ) (s t u : List ℕ) (next i : ℕ) → Ready x s → Walking x s t next i → next ≡ 0 → Ended x i t u → ListsOne x s u
+pub walking-done : (x : ℕ) (s t u : List ℕ) (next i : ℕ) → Listable x s → Walking x s t next i → next ≡ 0 → Ended x i t u → ListsOne x s u
 walking-done x s t u next i r d z e =
     let a = walking-all x s t next i d z in
     let l : i ≡ length (answeredFrom s 0 x) = sym (length-waiting t x i) ∙ ap length a in
-    let room : listedBy (listsTo t x) + i ≤ 16384 = rw (d .lists, l) (r .room) in
+    let room : listedBy (listsTo t x) + i ≤ referenceLimit = rw (d .lists, l) (r .room) in
     let done = e .does (d .listed) (r .name) room in
     record { relisted = relisted-then (d .relisted) (e .relisted); listed = done .1; lists = done .0 ∙ rw (d .lists, a) }
 
@@ -163,7 +163,7 @@ pub listing-none : (s : List ℕ) → Listed 0 s → Listing 0 s s
 unfolding listsTo
 listing-none s l = record { relisted = not-listing s; listed = l; lists = rows-none (referencesOf s) ∙ sym (rows-none (answeredFrom s 0)) }
 
-pub ready : (n x : ℕ) (s t : List ℕ) → n ≤ 4096 → Linked n 0 s → Listing x s t → x < n → Ready x t
+pub ready : (n x : ℕ) (s t : List ℕ) → n ≤ nameLimit → Linked n 0 s → Listing x s t → x < n → Listable x t
 ready n x s t h p d k =
     record {
       name = omega arith;
@@ -184,7 +184,7 @@ pub listing-done : (x n : ℕ) (s t : List ℕ) → Listing x s t → x ≤ n �
 listing-done x n s t d a b = let q : x ≡ n = omega arith in record { relisted = d .relisted; listed = rw q at (d .listed); lists = rw q at (d .lists) }
 
 -- what lies before the lists of the name x lies in one of the lists before it
-in-lists : (t : List ℕ) (m x : ℕ) → firstReference t 0 ≡ 0 → ((y : ℕ) → y ≤ x → firstReference t y ≤ 16384)
+in-lists : (t : List ℕ) (m x : ℕ) → firstReference t 0 ≡ 0 → ((y : ℕ) → y ≤ x → firstReference t y ≤ referenceLimit)
     → ((y k : ℕ) → y < x → k < length (referencesOf t y) → getD (referencesOf t y) k 0 < m) → (j : ℕ) → j < firstReference t x → word t (referencesAt + 4 * j) < m
 unfolding referencesOf rowsFrom
 in-lists t m zero z low own j h = absurd (omega (arith, z))
@@ -192,9 +192,9 @@ in-lists t m (suc x) z low own j h = go (ltb j (firstReference t x)) refl (in-li
   where
     here : firstReference t x ≤ j → word t (referencesAt + 4 * j) < m
     here l =
-        let a = cap-le (firstReference t x) 16384 (low x (omega arith)) in
+        let a = cap-le (firstReference t x) referenceLimit (low x (omega arith)) in
         let q : x + 1 ≡ suc x = omega arith in
-        let b = cap-le (firstReference t (suc x)) 16384 (low (suc x) (omega arith)) in
+        let b = cap-le (firstReference t (suc x)) referenceLimit (low (suc x) (omega arith)) in
         let n = length-rows (λ i. word t (referencesAt + 4 * (firstReference t x + i))) (firstReference t (suc x) - firstReference t x) in
         let k : j - firstReference t x < firstReference t (suc x) - firstReference t x = omega arith in
         let o = own x (j - firstReference t x) (omega arith) in
@@ -212,7 +212,7 @@ unfolding listsTo
 lists-used n s t d =
     in-lists t (cap (word s exprCount) exprLimit) n (d .listed .begins) few (λ y k l q. rw (own y l) (from-used s y k (rw (own y l) at q)))
   where
-    few : (y : ℕ) → y ≤ n → firstReference t y ≤ 16384
+    few : (y : ℕ) → y ≤ n → firstReference t y ≤ referenceLimit
     few y l = compared y n (λ e. rw e (d .listed .few)) (λ e. omega (arith, d .listed .few, d .listed .below y (omega arith)))
 
     own : (y : ℕ) → y < n → referencesOf t y ≡ answeredFrom s 0 y
@@ -257,7 +257,7 @@ kept-but : (s t : List ℕ) (ess : List (List ℕ)) → Wrote relisting s t → 
 unfolding keptIn withReferences relisting
 kept-but s t ess w still e = rw (module-kept w still refl refl, scopes-kept w refl refl refl, answers-kept w refl refl refl refl, e, number-kept w 24 refl)
 
-pub listed-anew : (s a b t : List ℕ) (k n : ℕ) → k ≡ word s 4 → n ≡ cap k 4096 → Links s a → Unlisted a b → ListsAll n b t → Lists s t
+pub listed-anew : (s a b t : List ℕ) (k n : ℕ) → k ≡ word s nameCount → n ≡ cap k nameLimit → Links s a → Unlisted a b → ListsAll n b t → Lists s t
 unfolding relisting listsTo
 listed-anew s a b t k n ek en l u d =
     let e : n ≡ cap (word s nameCount) nameLimit = rw ek at en in

@@ -1,43 +1,19 @@
 -- References linked in the work room: of every name where its list begins, of every expression which comes after it, each one too high with 0 for the end.
 use mathlib.Core.Path.{_≡_}
 use mathlib.Core.List.{List, [], _∷_}
-use mathlib.Core.Option.{Option, none, some}
 use Prim.Native.Nat.{ℕ, _+_, _*_, _<_}
 use lib.ListN.{drop}
 use Rattle.words.specs.Words.{word}
 use Rattle.spec.specs.Basics.{ExprId, NameId}
-use Rattle.spec.specs.Answer as spec
 use Rattle.spec.specs.Kept.{answeredWith}
-use Rattle.kept.specs.declared.answers.Answer.{Answer}
-use Rattle.kept.specs.declared.answers.Answer.the-variants.{Unresolved, Definition, Builtin, Withs}
-use Rattle.layout.specs.Layout.{nameCount, nameLimit}
+use Rattle.layout.specs.Layout.{nameLimit, nameCount, nextsAt, headsAt, setsAt}
 use Rattle.layout.specs.Rows.{cap}
 use Rattle.layout.specs.Changes.{Range, Wrote, Still}
 use Rattle.layout.specs.Keeps.{keptIn}
 
--- ---- the name that an answer means: of the code's, and of the definitions'
-unfoldable pub meantBy : Answer → Option NameId
-meantBy Unresolved = none
-meantBy (Definition x) = some (x .0)
-meantBy (Builtin i) = none
-meantBy Withs = none
-
-unfoldable pub meant : Option spec.Answer → Option NameId
-meant none = none
-meant (some spec.unresolved) = none
-meant (some (spec.definition x)) = some x
-meant (some (spec.builtin i)) = none
-meant (some (spec.withs es)) = none
-
 -- ---- the room of the items that wait: a word for every expression, and after these a word for every name
-abbrev pub nextsAt : ℕ
-nextsAt = 2588772
-
-abbrev pub headsAt : ℕ
-headsAt = 2654308
-
 unfoldable pub linking : List Range
-linking = (2588772, 2785380) ∷ []
+linking = (nextsAt, setsAt) ∷ []
 
 unfoldable pub nextOf : List ℕ → ExprId → ℕ
 nextOf s e = word s (nextsAt + 4 * e)

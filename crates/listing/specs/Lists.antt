@@ -6,7 +6,7 @@ use lib.ListN.{length}
 use Rattle.words.specs.Words.{word}
 use Rattle.spec.specs.Basics.{NameId}
 use Rattle.spec.specs.Kept.{tabulate, answeredWith}
-use Rattle.layout.specs.Layout.{exprCount, nameCount, referencesAt, exprLimit, nameLimit, referenceLimit}
+use Rattle.layout.specs.Layout.{exprLimit, nameLimit, referenceLimit, exprCount, nameCount, firstsAt, referencesAt, waitingAt, nextsAt, setsAt}
 use Rattle.layout.specs.Rows.{cap, rowsTo}
 use Rattle.layout.specs.Changes.{Range, Wrote, Still}
 use Rattle.layout.specs.Keeps.{firstReference, keptIn}
@@ -15,7 +15,7 @@ use Rattle.listing.specs.Links.{headOf, Chained, answeredFrom}
 
 -- where references begin, and references; the room of the items that wait
 unfoldable pub relisting : List Range
-relisting = (2506848, 2588772) ∷ (2588772, 2785380) ∷ []
+relisting = (firstsAt, waitingAt) ∷ (nextsAt, setsAt) ∷ []
 
 -- The kept references are those that the kept answers say, and nothing else that is kept is another. Their lists lie one after the other, and what they list
 -- are expressions in use.
@@ -28,7 +28,7 @@ pub record Lists (s t : List ℕ) : Type 0 where
 
 -- ---- the way there
 -- The references of the name x are linked, the names before it have their lists, and there is room.
-pub record Ready (x : NameId) (s : List ℕ) : Type 0 where
+pub record Listable (x : NameId) (s : List ℕ) : Type 0 where
   pub name : x < nameLimit
   pub chain : Chained s (headOf s x) (answeredFrom s 0 x)
   pub listed : Listed x s

@@ -1,31 +1,25 @@
 // The references of every name, linked in the work room: of each name where its list begins, and of each
 // expression which comes after it. A number stands one too high there, so that 0 can end a list.
 ghost use Prim.Native.Nat.{_≤_, _<_};
-ghost use Rattle.layout.specs.Layout.{Long};
+ghost use Rattle.layout.specs.Layout.{exprLimit, nameLimit, Long};
 ghost use Rattle.listing.specs.Links.{Unheaded, LinksOne, LinksAll, Links};
 use crate::meaning::name_meant;
 use layout::at_most;
+use layout::tables::EXPR_COUNT;
+use layout::tables::EXPR_LIMIT;
+use layout::tables::HEADS;
+use layout::tables::NAME_COUNT;
+use layout::tables::NAME_LIMIT;
+use layout::tables::NEXTS;
 use layout::wide;
 use module::ExprId;
 use module::MaybeName;
 use words::get32;
 use words::put32;
 
-const EXPR_COUNT: usize = 0;
-
-const NAME_COUNT: usize = 4;
-
-const EXPR_LIMIT: u32 = 16384;
-
-const NAME_LIMIT: u32 = 4096;
-
-const NEXTS: usize = 2588772;
-
-const HEADS: usize = 2654308;
-
 // The lists of the first n names are empty.
 fn clear_heads(store: &mut [u8], n: u32)
-    requires { ⌜ Long (now store) × (n ≤ 4096) ⌝ }
+    requires { ⌜ Long (now store) × (n ≤ nameLimit) ⌝ }
     ensures { λ _. ⌜ Unheaded n (now (store .entry)) (now (store .exit)) ⌝ }
 {
     let mut x: u32 = 0;
@@ -37,7 +31,7 @@ fn clear_heads(store: &mut [u8], n: u32)
 
 // The expression e is put before the list of the name that it means, if that is one of the first n.
 fn link_one(store: &mut [u8], e: ExprId, n: u32)
-    requires { ⌜ Long (now store) × (e .0 < 16384) × (n ≤ 4096) ⌝ }
+    requires { ⌜ Long (now store) × (e .0 < exprLimit) × (n ≤ nameLimit) ⌝ }
     ensures { λ _. ⌜ LinksOne n (e .0) (now (store .entry)) (now (store .exit)) ⌝ }
 {
     let MaybeName::Name(x) = name_meant(store, e) else {
@@ -55,7 +49,7 @@ fn link_one(store: &mut [u8], e: ExprId, n: u32)
 
 // All expressions, the last one first.
 fn link_all(store: &mut [u8], n: u32)
-    requires { ⌜ Long (now store) × (n ≤ 4096) ⌝ }
+    requires { ⌜ Long (now store) × (n ≤ nameLimit) ⌝ }
     ensures { λ _. ⌜ LinksAll n (now (store .entry)) (now (store .exit)) ⌝ }
 {
     let count = at_most(get32(store, EXPR_COUNT), EXPR_LIMIT);

@@ -1,30 +1,26 @@
 // The linked lists, written one after the other as kept references.
 ghost use Prim.Native.Nat.{_≤_};
 ghost use Rattle.kept.specs.References.{Listed};
-ghost use Rattle.layout.specs.Layout.{Long};
+ghost use Rattle.layout.specs.Layout.{nameLimit, Long};
 ghost use Rattle.listing.specs.Links.{Linked};
-ghost use Rattle.listing.specs.Lists.{Ready, ListsOne, ListsAll, Lists};
+ghost use Rattle.listing.specs.Lists.{Listable, ListsOne, ListsAll, Lists};
 use crate::linking::link_references;
 use kept::add_reference;
 use kept::clear_references;
 use kept::end_references;
 use layout::at_most;
+use layout::tables::HEADS;
+use layout::tables::NAME_COUNT;
+use layout::tables::NAME_LIMIT;
+use layout::tables::NEXTS;
 use layout::wide;
 use module::ExprId;
 use module::NameId;
 use words::get32;
 
-const NAME_COUNT: usize = 4;
-
-const NAME_LIMIT: u32 = 4096;
-
-const NEXTS: usize = 2588772;
-
-const HEADS: usize = 2654308;
-
 // The list of the name x, after those of the names before it.
 fn list_one(store: &mut [u8], x: NameId)
-    requires { ⌜ Long (now store) × Ready (x .0) (now store) ⌝ }
+    requires { ⌜ Long (now store) × Listable (x .0) (now store) ⌝ }
     ensures { λ _. ⌜ ListsOne (x .0) (now (store .entry)) (now (store .exit)) ⌝ }
 {
     let mut next = get32(store, HEADS + 4 * wide(x.0));
@@ -40,7 +36,7 @@ fn list_one(store: &mut [u8], x: NameId)
 
 // The lists of the first n names.
 fn list_all(store: &mut [u8], n: u32)
-    requires { ⌜ Long (now store) × (n ≤ 4096) × Linked n 0 (now store) × Listed 0 (now store) ⌝ }
+    requires { ⌜ Long (now store) × (n ≤ nameLimit) × Linked n 0 (now store) × Listed 0 (now store) ⌝ }
     ensures { λ _. ⌜ ListsAll n (now (store .entry)) (now (store .exit)) ⌝ }
 {
     let mut x: u32 = 0;

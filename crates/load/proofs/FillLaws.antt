@@ -2,7 +2,7 @@
 use mathlib.Core.Path.{_≡_, refl, sym, ap, _∙_}
 use mathlib.Core.Bool.{Bool}
 use mathlib.Core.List.{List}
-use Prim.Native.Nat.{ℕ, _≤_}
+use Prim.Native.Nat.{ℕ, _+_, _-_, _≤_}
 use native.Mathlib.Omega.{arith}
 use lib.ListN.{length, drop}
 use lib.Seq.{drop-drop}
@@ -10,9 +10,9 @@ use Rattle.words.specs.Words.{word}
 use Rattle.spec.specs.Sheet.{Node, accepted}
 use Rattle.spec.specs.Tree.{judge}
 use Rattle.spec.specs.Lower.{lowerModule}
-use Rattle.spec.proofs.SheetRoom.{accepted-read}
-use Rattle.spec.proofs.KeptRoom.{node-room}
-use Rattle.layout.specs.Layout.{Long, storeBytes, sheetAt, textsPlace}
+use Rattle.spec.proofs.room.KeptRoom.{node-room}
+use Rattle.spec.proofs.reading.Reading.{accepted-read}
+use Rattle.layout.specs.Layout.{loadedTextLimit, textsPlace, exprsAt, sheetAt, storeBytes, Long}
 use Rattle.layout.specs.Regions.{bringing}
 use Rattle.layout.specs.Nodes.{nodesOf}
 use Rattle.layout.specs.States.{moduleIn}
@@ -29,7 +29,10 @@ use Rattle.load.specs.Filled.{Fills}
 
 -- the bytes past the store lie past the sheet's nodes
 past-same : (s t : List ℕ) → drop sheetAt t ≡ drop sheetAt s → drop storeBytes t ≡ drop storeBytes s
-past-same s t e = sym (drop-drop 950300 sheetAt t) ∙ ap (drop 950300) e ∙ drop-drop 950300 sheetAt s
+past-same s t = go sheetAt (storeBytes - sheetAt) storeBytes (omega arith)
+  where
+    go : (n k m : ℕ) → m ≡ n + k → drop n t ≡ drop n s → drop m t ≡ drop m s
+    go n k m q e = rw q (sym (drop-drop k n t) ∙ ap (drop k) e ∙ drop-drop k n s)
 
 -- a sheet's nodes and texts lie apart from the rows of lowering
 rows-apart : {sheet s t : List ℕ} {r : Bool} → Brought sheet s t r → NoRows s → NoRows t
@@ -43,7 +46,7 @@ rows-apart b z =
       waiting = number-kept (b .wrote) 32 refl ∙ z .waiting;
       sets = number-kept (b .wrote) 36 refl ∙ z .sets;
       entries = number-kept (b .wrote) 40 refl ∙ z .entries;
-      first-item = number-kept (b .wrote) 64 refl ∙ z .first-item;
+      first-item = number-kept (b .wrote) exprsAt refl ∙ z .first-item;
     }
 
 module _ {sheet s a b c t : List ℕ} {r : Bool} (long : Long s) (clears : Cleared s a) (brings : Brought sheet a b r) (lowers : LowersAll b c) (keeps : KeepsAll c t) where
@@ -73,7 +76,7 @@ module _ {sheet s a b c t : List ℕ} {r : Bool} (long : Long s) (clears : Clear
     long-c : Long c
     long-c = omega (arith, long, clears .wrote .size, brings .wrote .size, lowers .wrote .size)
 
-    texts-c : word c textsPlace ≤ 745472
+    texts-c : word c textsPlace ≤ loadedTextLimit
     texts-c = omega (arith, holds .texts, lowers .still .used)
 
     size-all : length t ≡ length s

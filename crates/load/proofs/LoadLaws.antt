@@ -1,6 +1,6 @@
 -- The four ways of a load: the reply or the store is too short, the sheet is refused, or the store is filled. Assumes nothing.
 use mathlib.Core.Path.{_≡_, refl, sym, _∙_}
-use mathlib.Core.Bool.{Bool, true, false, _||_}
+use mathlib.Core.Bool.{or-true}
 use mathlib.Core.List.{List}
 use Prim.Native.Nat.{ℕ, _%_, _≤_, _<_}
 use native.Mathlib.Omega.{arith}
@@ -28,10 +28,6 @@ Promise sheet s p r t q =
     (r ≡ returned (loadOutcome (judgedIn sheet s p))) × ((q ≡ replyAfter (loadOutcome (judgedIn sheet s p)) p) × Leaves (judgedIn sheet s p) s t)
 
 -- what becomes of the sheet
-or-true : (b : Bool) → (b || true) ≡ true
-or-true true = refl
-or-true false = refl
-
 module _ (sheet s p : List ℕ) where
   short-reply : length p < replyBytes → judgedIn sheet s p ≡ Judged.refused 21 0
   unfolding judgedIn loading conditionOf

@@ -1,4 +1,4 @@
--- What a load makes of the store that it is lent.
+-- What a load makes of the store that it is lent (docs/RULES.md, "The order of the checks", "What a refusal leaves").
 use mathlib.Core.Path.{_≡_}
 use mathlib.Core.List.{List}
 use Prim.Native.Nat.{ℕ}

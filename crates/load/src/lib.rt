@@ -5,16 +5,14 @@ ghost use Rattle.replies.specs.Replies.{returned, replyAfter, loadOutcome};
 ghost use Rattle.load.specs.Loads.{judgedIn, Leaves};
 ghost use Rattle.load.specs.Filled.{Fills};
 use intake::bring_nodes;
+use layout::tables::STORE_BYTES;
 use lower::lower;
 use nameres::keep_module;
+use replies::REPLY_BYTES;
 use replies::accept;
 use replies::refuse;
 use sheet::SheetRead;
 use store::clear;
-
-const STORE_BYTES: usize = 3948672;
-
-const REPLY_BYTES: usize = 20;
 
 // The nodes of an accepted sheet, then what is made of them. All counts are 0 first, so that nothing of an earlier load
 // is left. The nodes of such a sheet always find room, so that bring_nodes need not be asked whether they did.

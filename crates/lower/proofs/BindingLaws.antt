@@ -35,9 +35,9 @@ use Rattle.merge.specs.Finishes.{bindingItems}
 use Rattle.merge.proofs.Steps.{fits, all-lower}
 use Rattle.merge.proofs.Items.{bindings-items, bindings-suit}
 use Rattle.lower.specs.Sizes.{sized, below, sizes, place}
-use Rattle.lower.specs.Reads.{HasPlaces}
+use Rattle.lower.specs.Reads.{HasChildren}
 use Rattle.lower.specs.Parts.{lowerAt, mergeAt}
-use Rattle.lower.specs.declared.reads.Places.{Places}
+use Rattle.lower.specs.declared.reads.Children.{Children}
 use Rattle.lower.proofs.SizeLaws.{heft-place, own-and-below}
 use Rattle.lower.proofs.TurnLaws.{next}
 use Rattle.lower.proofs.WaitLaws.{taken-from}
@@ -51,7 +51,7 @@ Desugared depth k n s t =
     Collecting 0 (λ nodes. sizes nodes (merging.entriesOf nodes (lowerAt depth nodes) (mergeAt depth nodes) n)) oneSet bindingItems (λ nodes. desugar nodes (lowerAt depth nodes) (mergeAt depth nodes) (kindOf k) n) s t
 
 -- A LetIn, of which it must be known that it is one: its body stands before its entries.
-pub let-lowers : (depth n base : ℕ) (at : Places) (b : code-expr.ExprId) {s u v t : List ℕ} {r : ℕ} → kind (nodesOf s) n ≡ 12 → base ≡ length (waitingOf s) → HasPlaces (nodesOf s) n at
+pub let-lowers : (depth n base : ℕ) (at : Children) (b : code-expr.ExprId) {s u v t : List ℕ} {r : ℕ} → kind (nodesOf s) n ≡ 12 → base ≡ length (waitingOf s) → HasChildren (nodesOf s) n at
     → Desugared depth code-kinds.LetIn n s u → Opt depth (at .first) u (b .0) v → Allocated (LetIn b) (pointerOf (at .pointer)) base v r t
     → Lowering 0 (below n) ownNode (λ nodes. lowerLetIn nodes (lowerAt depth nodes) (mergeAt depth nodes) n) s r t
 unfolding lowerLetIn kindOf allocExpr exprMade exprWith sortFor tagFits covers _⊕_ price oneExpr oneSet ownNode

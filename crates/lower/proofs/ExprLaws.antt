@@ -31,9 +31,9 @@ use Rattle.merge.specs.Lowers.{Lowering}
 use Rattle.merge.proofs.Steps.{gave, yes-when, no-when, fits, all-lower}
 use Rattle.merge.proofs.Allocs.{missing-taken}
 use Rattle.lower.specs.Sizes.{below, place, heft}
-use Rattle.lower.specs.Reads.{HasPlaces}
+use Rattle.lower.specs.Reads.{HasChildren}
 use Rattle.lower.specs.Parts.{lowerAt, mergeAt, LowersNode, formOf, IsForm}
-use Rattle.lower.specs.declared.reads.Places.{Places}
+use Rattle.lower.specs.declared.reads.Children.{Children}
 use Rattle.lower.proofs.TurnLaws.{next}
 use Rattle.lower.proofs.SizeLaws.{own-and-below, heft-place, three-below}
 
@@ -66,7 +66,7 @@ unfolding lowerIfThere nodeOf exprOf place
 there-absent depth s q = rw q (all-lower (gave none))
 
 -- ---- expressions of one, two or three others
-module _ (depth n : ℕ) (at : Places) {s u t : List ℕ} {r : ℕ} (h : HasPlaces (nodesOf s) n at) where
+module _ (depth n : ℕ) (at : Children) {s u t : List ℕ} {r : ℕ} (h : HasChildren (nodesOf s) n at) where
   pub pair-lowers : (kind : ℕ) {a b : ℕ} (e : code.Expr) {v : List ℕ} → Opt depth (at .first) s a u → Opt depth (at .second) u b v → IsForm kind a b e → Lone e (pointerOf (at .pointer)) v r t
       → Lowering 0 (below n) ownNode (λ nodes. lowering.pair nodes (lowerAt depth nodes) (mergeAt depth nodes) (formOf kind) n) s r t
   unfolding lowering.pair covers _⊕_ price oneExpr ownNode
@@ -85,7 +85,7 @@ module _ (depth n : ℕ) (at : Places) {s u t : List ℕ} {r : ℕ} (h : HasPlac
       (fits 0 (λ w. omega (arith, three-below w h, heft-place (nodesOf s) (nodeOf (at .first)), heft-place (nodesOf s) (nodeOf (at .second)), heft-place (nodesOf s) (nodeOf (at .third)))) refl
       (next _ (a .at _ _) (next _ (b .at _ _) (next _ (e .at _ _) (d .at _ _))))))
 
-  -- "A flag-0 BinOp lowers its left side first."
+  -- docs/RULES.md, "From nodes to expressions": "A flag-0 BinOp lowers its left side first."
   pub binop-missing : (op l : ℕ) → op ≡ flag (nodesOf s) n → Opt depth (at .first) s l u → op ≡ 0 → Did (takeLone holeMade) u r t
       → Lowering 0 (below n) ownNode (λ nodes. lowerBinOp nodes (lowerAt depth nodes) (mergeAt depth nodes) n) s r t
   unfolding lowerBinOp covers _⊕_ price oneExpr ownNode

@@ -6,6 +6,7 @@ use mathlib.Core.Option.{Option}
 use Prim.Native.Nat.{ℕ, suc, _+_, _-_, _*_, _≤_, _<_}
 use native.Mathlib.Omega.{arith}
 use lib.ListN.{length, take}
+use lib.Seq.{take-append-seam}
 use Rattle.spec.specs.Basics.{NodeId, ExprId}
 use Rattle.spec.specs.Sheet.{Node}
 use Rattle.spec.specs.Keys.{pointer}
@@ -20,26 +21,26 @@ use Rattle.spec.specs.Steps.{_>>=_, give, asks}
 use Rattle.spec.specs.State.{SetId, MergingSet, MergingEntry, State, Low, newSet, cut, inner}
 use Rattle.spec.specs.Merge.{newNested, finishExpr, finish, mergeNestedAttrValue, mergeEntries, desugar}
 use Rattle.spec.specs.Merge as merging
-use Rattle.spec.proofs.Sums.{All, all-map}
-use Rattle.spec.proofs.Weights.{Known}
-use Rattle.spec.proofs.Forest as forest
-use Rattle.spec.proofs.Standing.{Standing, standing-same}
-use Rattle.spec.proofs.Above.{Above, above-bindings, above-nested}
-use Rattle.spec.proofs.Loads.{load, loads, entriesFrom, load-forest, loads-forest, above-few}
+use Rattle.spec.proofs.general.Sums.{All, all-map}
+use Rattle.spec.proofs.once.Weights.{Known}
+use Rattle.spec.proofs.steps.Forest as forest
+use Rattle.spec.proofs.sets.Standing.{Standing, standing-same}
+use Rattle.spec.proofs.sets.Above.{Above, above-bindings, above-nested}
+use Rattle.spec.proofs.sets.Loads.{load, loads, entriesFrom, load-forest, loads-forest, above-few}
+use Rattle.layout.specs.Layout.{nodeLimit}
 use Rattle.layout.specs.Exprs.{Item}
 use Rattle.layout.specs.Nodes.{nodesOf}
 use Rattle.layout.specs.States.{setsOf, entriesOf, orderOf, stateOf, waitingOf, usedOf}
 use Rattle.layout.proofs.Frames.{wrote-then}
 use Rattle.layout.proofs.WriteLaws.{still-then}
 use Rattle.store.specs.Work.{Work, workOf, Did}
-use Rattle.merging.specs.Ranks.{InOrder}
-use Rattle.merging.specs.Entries.{openSet, cutTo}
-use Rattle.merging.proofs.RankChanges.{in-order-cut}
+use Rattle.open_sets.specs.Ranks.{InOrder}
+use Rattle.open_sets.specs.Entries.{openSet, cutTo}
+use Rattle.open_sets.proofs.RankChanges.{in-order-cut}
 use Rattle.merge.specs.Room.{Resource, exprs, items, names, diagnostics, sets, entries, level, perNode, Price, price, nothing, oneSet, _⊕_, covers}
-use Rattle.merge.specs.Lowers.{Ready, Setting, Lowered, Lowers, Lowering, Collecting}
-use Rattle.merge.specs.Finishes.{bindingItems, Begins, Kept, Finished, Finishes, Finishing, Listing}
+use Rattle.merge.specs.Lowers.{Lowerable, Setting, Lowered, Lowers, Lowering, Collecting}
+use Rattle.merge.specs.Finishes.{bindingItems, Begins, ExprsOnly, Finished, Finishes, Finishing, Listing}
 use Rattle.merge.proofs.Steps.{nodes-still, then-open, fits, all-lower}
-use Rattle.merge.proofs.Allocs.{take-all}
 use Rattle.merge.proofs.SetSteps.{opened, opened-below}
 use Rattle.lower.specs.Sizes.{sized, sizes, place}
 use Rattle.lower.specs.Reads.{attrsFrom}
@@ -49,10 +50,10 @@ use Rattle.lower.proofs.WaitLaws.{all-collect}
 -- ---- what stands on top, cut off
 module _ {st u : State} (o : Above st u) where
   sets-back : take (length (st .sets)) (u .sets) ≡ st .sets
-  sets-back = rw (o .sets) (take-all (st .sets) (o .moreSets))
+  sets-back = rw (o .sets) (take-append-seam (st .sets) (o .moreSets))
 
   entries-back : take (length (st .entries)) (u .entries) ≡ st .entries
-  entries-back = rw (o .entries) (take-all (st .entries) (o .more))
+  entries-back = rw (o .entries) (take-append-seam (st .entries) (o .more))
 
   run-back : {run : List ℕ} → Known st → InOrder (u .entries) run → InOrder (st .entries) (take (length (st .entries)) run)
   run-back known h = in-order-cut (length (st .sets)) (st .entries) (o .more) (rw (o .entries) at h) (all-map _ _ (λ e n. n .0 .1) (st .entries) known) (o .later)
@@ -82,7 +83,7 @@ nothing-none diagnostics = refl
 nothing-none sets = refl
 nothing-none entries = refl
 
-forest-of : {v : List ℕ} → Ready v → forest.Fine (length (setsOf v)) (entriesOf v)
+forest-of : {v : List ℕ} → Lowerable v → forest.NestedOnce (length (setsOf v)) (entriesOf v)
 unfolding stateOf
 forest-of h = h .standing .forest
 
@@ -102,7 +103,7 @@ record Back (s x t : List ℕ) : Type 0 where
   entries-are : stateOf t .entries ≡ stateOf s .entries
 
 -- The stacks cut back to what they were in s, v standing on top of it and x being v finished.
-cut-off : (s v x t : List ℕ) {a b : ℕ} → Ready s → Above (stateOf s) (stateOf v) → Kept (stateOf v) (stateOf x) → Ready x → a ≡ length (setsOf s) → b ≡ length (entriesOf s) → workOf t ≡ cutTo a b (workOf x) .1
+cut-off : (s v x t : List ℕ) {a b : ℕ} → Lowerable s → Above (stateOf s) (stateOf v) → ExprsOnly (stateOf v) (stateOf x) → Lowerable x → a ≡ length (setsOf s) → b ≡ length (entriesOf s) → workOf t ≡ cutTo a b (workOf x) .1
     → Back s x t
 unfolding workOf stateOf cutTo cut
 cut-off s v x t {a} {b} ready o kept after i j e =
@@ -118,7 +119,7 @@ cut-off s v x t {a} {b} ready o kept after i j e =
       entries-are = ap (λ (y : State). y .entries) state-is ∙ (rw (j, kept .entries-same) (entries-back o));
     }
 
-back-order : (s v x t : List ℕ) (a : ℕ) {b : ℕ} → Ready s → Above (stateOf s) (stateOf v) → Kept (stateOf v) (stateOf x) → Ready x → b ≡ length (entriesOf s) → workOf t ≡ cutTo a b (workOf x) .1
+back-order : (s v x t : List ℕ) (a : ℕ) {b : ℕ} → Lowerable s → Above (stateOf s) (stateOf v) → ExprsOnly (stateOf v) (stateOf x) → Lowerable x → b ≡ length (entriesOf s) → workOf t ≡ cutTo a b (workOf x) .1
     → entriesOf t ≡ entriesOf s → InOrder (entriesOf t) (orderOf t)
 unfolding workOf stateOf cutTo
 back-order s v x t a {b} ready o kept after j e same =
@@ -156,7 +157,7 @@ module _ {A : Type 0} (k : NameKind) (p : Pointer) (body : SetId → Low (Unit {
   whole-same s v x {r} {z} i same fins = fins ∙ (ap (λ y. fin r (y .1)) same ∙ ap (λ (y : ℕ). fin y (body (newSet k p (stateOf s) .0) (newSet k p (stateOf s) .1) .1)) i)
 
   -- from here on, what was merged into the new set being v
-  built-from : {w w′ : List Item} {m n a b : ℕ} {s v x t : List ℕ} {r : SetId} {z : A} → Ready s → ((q : Resource) → level q (workOf s) + (perNode q * m + oneSet q) ≤ perNode q * 4096)
+  built-from : {w w′ : List Item} {m n a b : ℕ} {s v x t : List ℕ} {r : SetId} {z : A} → Lowerable s → ((q : Resource) → level q (workOf s) + (perNode q * m + oneSet q) ≤ perNode q * nodeLimit)
       → r ≡ length (setsOf s) → r ≡ newSet k p (stateOf s) .0 → Lowered w m oneSet (newSet k p >>= body) s tt v → Above (stateOf s) (stateOf v) → n ≤ entriesFrom r (entriesOf v) + (length (setsOf v) - r)
       → a ≡ length (setsOf s) → b ≡ length (entriesOf s) → Finishes w w′ n (fin r) v z x → Did (cutTo a b) x tt t → Lowered w′ m oneSet (inner whole) s z t
   unfolding stateOf workOf level perNode
@@ -186,7 +187,7 @@ module _ {A : Type 0} (k : NameKind) (p : Pointer) (body : SetId → Low (Unit {
       }
 
   pub built : {nodes : List Node} {w w′ : List Item} {m n a b : ℕ} {s u v x t : List ℕ} {r : SetId} {z : A} → ((st : State) → Known st → Above st ((newSet k p >>= body) st .1))
-      → (forest.Fine (length (setsOf v)) (entriesOf v) → r < length (setsOf v) → n ≤ entriesFrom r (entriesOf v) + (length (setsOf v) - r))
+      → (forest.NestedOnce (length (setsOf v)) (entriesOf v) → r < length (setsOf v) → n ≤ entriesFrom r (entriesOf v) + (length (setsOf v) - r))
       → a ≡ length (setsOf s) → b ≡ length (entriesOf s) → Did (openSet k p) s r u → Lowers nodes w w (suc r) m nothing (body r) u tt v → Finishes w w′ n (fin r) v z x → Did (cutTo a b) x tt t
       → Lowers nodes w w′ 0 m oneSet (inner (newSet k p >>= λ i. body i >>= λ _. fin i)) s z t
   built {nodes} {w} {w′} {m} {n} {a} {b} {s} {u} {v} {x} {t} {r} {z} above few i j opens y f d = record {
@@ -234,10 +235,10 @@ module _ {A : Type 0} (k : NameKind) (p : Pointer) (body : SetId → Low (Unit {
 
 -- ---- the bindings of a set or a let
 -- what finishing the set on top takes, as its bindings or as an expression
-loads-few : (v : List ℕ) (r : SetId) → forest.Fine (length (setsOf v)) (entriesOf v) → r < length (setsOf v) → loads (entriesOf v) (length (setsOf v)) r ≤ entriesFrom r (entriesOf v) + (length (setsOf v) - r)
+loads-few : (v : List ℕ) (r : SetId) → forest.NestedOnce (length (setsOf v)) (entriesOf v) → r < length (setsOf v) → loads (entriesOf v) (length (setsOf v)) r ≤ entriesFrom r (entriesOf v) + (length (setsOf v) - r)
 loads-few v r fine h = omega (arith, loads-forest (length (setsOf v)) (entriesOf v) fine (length (setsOf v)) r h)
 
-load-few : (v : List ℕ) (r : SetId) → forest.Fine (length (setsOf v)) (entriesOf v) → r < length (setsOf v) → load (entriesOf v) (length (setsOf v)) r ≤ entriesFrom r (entriesOf v) + (length (setsOf v) - r)
+load-few : (v : List ℕ) (r : SetId) → forest.NestedOnce (length (setsOf v)) (entriesOf v) → r < length (setsOf v) → load (entriesOf v) (length (setsOf v)) r ≤ entriesFrom r (entriesOf v) + (length (setsOf v) - r)
 load-few v r fine h = load-forest (length (setsOf v)) (entriesOf v) fine (length (setsOf v)) r h
 
 -- desugar

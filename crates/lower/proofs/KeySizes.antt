@@ -12,7 +12,7 @@ use Rattle.spec.specs.Sheet.{Node}
 use Rattle.spec.specs.Keys.{AttrKind, staticKey, dynamicKey, kind, text, kid, items, itemsAfter, flattenParen, getStrLiteral, strKey, insideDynamic, attrKind}
 use Rattle.spec.specs.State.{SetId, Low}
 use Rattle.spec.specs.Merge.{entriesOf, attributes}
-use Rattle.spec.proofs.Sizes.{Weighs, all-items, first-and-rest, key-size-inside}
+use Rattle.spec.proofs.tree.Sizes.{Weighs, all-items, first-and-rest, key-size-inside}
 use Rattle.keys.specs.Items.{itemsFrom}
 use Rattle.keys.proofs.ItemLaws.{items-are}
 use Rattle.lower.specs.Sizes.{sized, below, sizes, place, heft}

@@ -41,9 +41,9 @@ use Rattle.merge.specs.Lowers.{Lowers, Lowering, Collecting}
 use Rattle.merge.proofs.Allocs.{none-suit}
 use Rattle.merge.proofs.Steps.{gave, as-step, fits, all-lower}
 use Rattle.lower.specs.Sizes.{sized, below, sizes, place}
-use Rattle.lower.specs.Reads.{HasPlaces, HasParam, identOf, ownerOf, ellipsisOf, patternOf, attrsFrom}
+use Rattle.lower.specs.Reads.{HasChildren, HasParam, identOf, ownerOf, ellipsisOf, patternOf, attrsFrom}
 use Rattle.lower.specs.Parts.{lowerAt, mergeAt, fieldItem, one}
-use Rattle.lower.specs.declared.reads.Places.{Places}
+use Rattle.lower.specs.declared.reads.Children.{Children}
 use Rattle.lower.specs.declared.reads.Param.{Param}
 use Rattle.lower.proofs.SizeLaws.{own-and-below, heft-place, three-below, param-size}
 use Rattle.lower.proofs.TurnLaws.{next}
@@ -60,7 +60,7 @@ Fields depth p s t =
     Collecting 0 (λ nodes. sizes nodes (attrsFrom nodes 1 (nodeOf p))) nothing (map fieldItem) (λ nodes. each (lowerField nodes (lowerAt depth nodes) (mergeAt depth nodes)) (attrsFrom nodes 1 (nodeOf p))) s t
 
 -- ---- a field: its name, then its default
-pub field-lowers : (depth n : ℕ) (at : Places) (x : MaybeName) (d : MaybeExpr) {s u v t : List ℕ} → HasPlaces (nodesOf s) n at → Named depth (kindOf name-kind.PatField) (at .first) s (nameOf x) u → There depth (at .second) u (exprOf d) v
+pub field-lowers : (depth n : ℕ) (at : Children) (x : MaybeName) (d : MaybeExpr) {s u v t : List ℕ} → HasChildren (nodesOf s) n at → Named depth (kindOf name-kind.PatField) (at .first) s (nameOf x) u → There depth (at .second) u (exprOf d) v
     → Did (pushItem (itemWith (textIn v) (code-item.Field x d))) v tt t
     → Collecting 0 (λ nodes. sized nodes n) nothing (one fieldItem) (λ nodes. lowerField nodes (lowerAt depth nodes) (mergeAt depth nodes) n) s t
 unfolding lowerField kindOf fieldItem one itemWith covers _⊕_ price nothing oneItem
@@ -159,8 +159,8 @@ module _ (depth : ℕ) (s : List ℕ) (p : Option NodeId) (x : Param) (g : HasPa
       (as-step (λ _. as-param (stateOf s)) (next _ (a .at _ _) (next (λ l. give (nameOf name, patOf (patternOf (x .pattern)) l)) (fs .at _ _) (gave _))))
 
 -- ---- the whole
-module _ (depth n base : ℕ) (at : Places) {s u v w t : List ℕ} {r : ℕ} where
-  pub lambda-lowers : (x : Param) (name : MaybeName) (body : code-expr.ExprId) → base ≡ length (waitingOf s) → HasPlaces (nodesOf s) n at → HasParam (nodesOf s) (nodeOf (at .first)) x
+module _ (depth n base : ℕ) (at : Children) {s u v w t : List ℕ} {r : ℕ} where
+  pub lambda-lowers : (x : Param) (name : MaybeName) (body : code-expr.ExprId) → base ≡ length (waitingOf s) → HasChildren (nodesOf s) n at → HasParam (nodesOf s) (nodeOf (at .first)) x
       → Named depth (kindOf name-kind.Param) (x .ident) s (nameOf name) u → Fields depth (x .owner) u v → Opt depth (at .second) v (body .0) w → Allocated (Lambda name (x .pattern) body) (pointerOf (at .pointer)) base w r t
       → Lowering 0 (below n) ownNode (λ nodes. lowerLambda nodes (lowerAt depth nodes) (mergeAt depth nodes) n) s r t
   unfolding lowerLambda kindOf allocExpr exprMade exprWith covers _⊕_ price nothing oneExpr ownNode

@@ -16,7 +16,7 @@ use Rattle.spec.specs.Module.{Pointer, NameKind, literal, string}
 use Rattle.spec.specs.Steps.{give, when}
 use Rattle.spec.specs.State.{Low, allocExpr, allocMissing}
 use Rattle.spec.specs.Lower.{lowerName, lowerIdent, lowerFloat, lowerInteger}
-use Rattle.spec.proofs.Sizes.{positive}
+use Rattle.spec.proofs.tree.Sizes.{positive}
 use Rattle.module.specs.Ids.{nodeOf}
 use Rattle.module.specs.Literals.{literalOf}
 use Rattle.module.specs.declared.expr.Expr.{Expr}
@@ -34,7 +34,7 @@ use Rattle.layout.specs.Texts.{textIn, maybeText}
 use Rattle.store.specs.Codes.{exprWith, ValidExpr, sortFor, exprMade, holeMade}
 use Rattle.store.specs.Work.{Did, Takes, takeLone, putName, nameWith}
 use Rattle.keys.specs.AstUtils.{identName}
-use Rattle.keys.specs.Literals.{literalHeld, allocLiteral, Held}
+use Rattle.keys.specs.Literals.{literalHeld, allocLiteral, LiteralRead}
 use Rattle.module.specs.declared.ids.MaybeText.{MaybeText}
 use Rattle.module.specs.declared.ids.MaybeText.the-variants as maybe-text
 use Rattle.keys.specs.declared.literals.MaybeLiteral.{MaybeLiteral}
@@ -94,7 +94,7 @@ module _ (s : List ℕ) (k : NameKind) (m : MaybeNode) where
   name-taken n q x a p b {r} {t} d = rw q (all-lower (rw (← a, ← b) (fits 1 (λ w. omega (arith, positive w (n .0))) name-covered (steps.then {top′ = 0} (λ i. give (some i)) (omega arith) (named x k p d) (gave (some r))))))
 
 -- ---- a literal
-module _ (s : List ℕ) (n : NodeId) (k : ℕ) (m : MaybeLiteral) (h : Held s (literalHeld (nodesOf s) k n) m) where
+module _ (s : List ℕ) (n : NodeId) (k : ℕ) (m : MaybeLiteral) (h : LiteralRead s (literalHeld (nodesOf s) k n) m) where
   pub literal-fits : (l : code-literal.Literal) → m ≡ maybe-literal.Literal l → ValidExpr (code.Literal l)
   unfolding ValidExpr
   literal-fits l q = literal-valid s m _ h l q

@@ -39,9 +39,9 @@ use Rattle.merge.specs.Room.{price, _⊕_, covers, nothing, oneExpr, oneItem, o
 use Rattle.merge.specs.Lowers.{Lowering, Collecting}
 use Rattle.merge.proofs.Steps.{yes-when, no-when, fits, all-lower}
 use Rattle.lower.specs.Sizes.{sized, below, place}
-use Rattle.lower.specs.Reads.{HasPlaces}
+use Rattle.lower.specs.Reads.{HasChildren}
 use Rattle.lower.specs.Parts.{lowerAt, mergeAt, partItem, one}
-use Rattle.lower.specs.declared.reads.Places.{Places}
+use Rattle.lower.specs.declared.reads.Children.{Children}
 use Rattle.lower.proofs.SizeLaws.{own-and-below, heft-place, kid-below, three-below}
 use Rattle.lower.proofs.TurnLaws.{next}
 use Rattle.lower.proofs.WaitLaws.{children-back, parts-back, children-suit, parts-suit, pushed-giving, taken-from, all-collect}
@@ -65,7 +65,7 @@ abbrev pub Parts : ℕ → NodeId → List ℕ → List ℕ → Type 0
 Parts depth n s t = Collecting 0 (below n) nothing (map partItem) (λ nodes. each (lowerPart nodes (lowerAt depth nodes) (mergeAt depth nodes)) (items nodes n)) s t
 
 -- ---- what has a path
-module _ (depth n base : ℕ) (at : Places) {s u v t : List ℕ} {r : ℕ} (b : base ≡ length (waitingOf s)) (h : HasPlaces (nodesOf s) n at) (set : code-expr.ExprId) (x : Opt depth (at .first) s (set .0) u) (y : Attrpath depth (at .second) u v) where
+module _ (depth n base : ℕ) (at : Children) {s u v t : List ℕ} {r : ℕ} (b : base ≡ length (waitingOf s)) (h : HasChildren (nodesOf s) n at) (set : code-expr.ExprId) (x : Opt depth (at .first) s (set .0) u) (y : Attrpath depth (at .second) u v) where
   pub select-lowers : {w : List ℕ} (d : MaybeExpr) → There depth (at .third) v (exprOf d) w → Allocated (Select set d) (pointerOf (at .pointer)) base w r t
       → Lowering 0 (below n) ownNode (λ nodes. lowerSelect nodes (lowerAt depth nodes) (mergeAt depth nodes) n) s r t
   unfolding lowerSelect allocExpr exprMade exprWith covers _⊕_ price nothing oneExpr ownNode

@@ -14,7 +14,7 @@ use Rattle.spec.specs.Steps.{each, eachOf}
 use Rattle.spec.specs.State.{SetId, Low, allocExpr}
 use Rattle.spec.specs.Merge.{attributes, inheritSource, inheritAttr, mergeInherit, mergeEntry, entriesOf, mergeEntries}
 use Rattle.spec.specs.Lower.{lowerExpr, lowerPart, lowerAttr, lowerAttrpathOpt, lowerField, lowerList}
-use Rattle.spec.proofs.Sizes.{Weighs, all-items}
+use Rattle.spec.proofs.tree.Sizes.{Weighs, all-items}
 use Rattle.module.specs.Ids.{nodeOf, exprOf, pointerOf}
 use Rattle.module.specs.declared.ids.MaybeNode.{MaybeNode}
 use Rattle.module.specs.declared.ids.MaybeExpr.{MaybeExpr}

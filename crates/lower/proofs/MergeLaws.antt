@@ -18,7 +18,7 @@ use Rattle.spec.specs.State.{SetId, source, dynamic, State, Low, addEntry, inne
 use Rattle.spec.specs.Merge.{find, nestedAt, mergeStaticValue, newNested, getOrCreateNestedStatic, finishExpr, lowerOpt, pushDynamic, mergeLowered, mergeInto, mergeKeyed, mergeAttrAs, mergeAttrValue, mergeStepAs, mergeNestedAttrValue, mergePath, mergeAttrpathVal, inheritAs, inheritAttr, inheritSource, mergeInherit, mergeEntry, mergeEntries}
 use Rattle.spec.specs.Merge as merging
 use Rattle.spec.specs.Lower.{mergeBindings}
-use Rattle.spec.proofs.Standing.{nested-below}
+use Rattle.spec.proofs.sets.Standing.{nested-below}
 use Rattle.module.specs.Ids.{nodeOf, exprOf, bindingOf, pointerOf}
 use Rattle.module.specs.declared.ids.NodeId as code-node
 use Rattle.module.specs.declared.ids.ExprId as code-expr
@@ -38,16 +38,16 @@ use Rattle.keys.specs.AstUtils.{attrKindOf}
 use Rattle.keys.specs.declared.ast_utils.AttrKind.{AttrKind}
 use Rattle.keys.specs.declared.ast_utils.AttrKind.the-variants.{Static, Dynamic}
 use Rattle.keys.proofs.AnswerLaws.{key-static, key-dynamic}
-use Rattle.merging.specs.declared.entry.SetId as code-set
+use Rattle.open_sets.specs.declared.entry.SetId as code-set
 use Rattle.merge.specs.Room.{Price, price, _⊕_, covers, nothing, oneExpr, oneEntry, oneSet}
-use Rattle.merge.specs.Lowers.{Ready, Setting, Lowers, Lowering}
+use Rattle.merge.specs.Lowers.{Lowerable, Setting, Lowers, Lowering}
 use Rattle.merge.specs.Merges.{valuePrice, nestedPrice, inheritPrice, Inherits}
 use Rattle.merge.proofs.Steps.{then-open, gave, asked, as-step, yes-when, no-when, fits, all-lower}
 use Rattle.merge.proofs.KeySteps.{nested-open}
 use Rattle.lower.specs.Sizes.{sized, below, sizes, place, heft}
-use Rattle.lower.specs.Reads.{HasPlaces, attrsFrom, FirstIn, nestedFor, intoOf, GoesInto}
+use Rattle.lower.specs.Reads.{HasChildren, attrsFrom, FirstIn, nestedFor, intoOf, GoesInto}
 use Rattle.lower.specs.Parts.{lowerAt, mergeAt}
-use Rattle.lower.specs.declared.reads.Places.{Places}
+use Rattle.lower.specs.declared.reads.Children.{Children}
 use Rattle.lower.specs.declared.reads.IntoSet.{IntoSet}
 use Rattle.lower.specs.declared.reads.IntoSet.the-variants.{Merged, Other}
 use Rattle.lower.proofs.SizeLaws.{heft-place, own-and-below, kid-below, three-below}
@@ -141,7 +141,7 @@ module _ (nodes : List Node) where
         go false q = refl
 
 -- the nested set of a key is open
-nested-opened : (set : SetId) (key : Text) (s : List ℕ) (t : SetId) → Ready s → nestedAt (find set key (stateOf s)) (stateOf s) ≡ some t → suc t ≤ length (setsOf s)
+nested-opened : (set : SetId) (key : Text) (s : List ℕ) (t : SetId) → Lowerable s → nestedAt (find set key (stateOf s)) (stateOf s) ≡ some t → suc t ≤ length (setsOf s)
 unfolding stateOf
 nested-opened set key s t ready e = nested-below set key (stateOf s) t (ready .standing) e
 
@@ -236,7 +236,7 @@ module _ (depth : ℕ) (set : SetId) (way : MaybeNode) (n after : ℕ) (value : 
 abbrev pub AttrpathVal : ℕ → SetId → NodeId → List ℕ → List ℕ → Type 0
 AttrpathVal depth set n s t = Lowering (suc set) (λ nodes. sized nodes n) nothing (λ nodes. mergeAttrpathVal nodes (lowerAt depth nodes) (mergeAt depth nodes) set n) s tt t
 
-module _ (depth : ℕ) (set : SetId) (n : NodeId) (at : Places) {s t : List ℕ} (h : HasPlaces (nodesOf s) n at) where
+module _ (depth : ℕ) (set : SetId) (n : NodeId) (at : Children) {s t : List ℕ} (h : HasChildren (nodesOf s) n at) where
   -- a path without an attribute
   pub attrpath-none : attrsFrom (nodesOf s) 0 (nodeOf (at .first)) ≡ [] → Pushed depth set maybe-node.Absent (at .second) s t → AttrpathVal depth set n s t
   unfolding mergeAttrpathVal mergePath nodeOf heft covers price nothing

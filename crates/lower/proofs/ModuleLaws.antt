@@ -10,14 +10,14 @@ use Rattle.spec.specs.Sheet.{Node, accepted}
 use Rattle.spec.specs.Tree.{judge}
 use Rattle.spec.specs.State.{State, empty}
 use Rattle.spec.specs.Lower.{lowerExpr, lowerModule, moduleOf}
-use Rattle.spec.proofs.KeptRoom.{walk-accepts}
-use Rattle.spec.proofs.TreeRoom.{size-all}
-use Rattle.spec.proofs.Sizes.{weighs-all}
-use Rattle.spec.proofs.Standing.{standing-empty}
-use Rattle.spec.proofs.Floats.{floats-held}
-use Rattle.spec.proofs.Linear.{at-depth}
-use Rattle.spec.proofs.Leaves.{weightless}
-use Rattle.layout.specs.Layout.{nodeCount, nodeLimit}
+use Rattle.spec.proofs.room.KeptRoom.{walk-accepts}
+use Rattle.spec.proofs.tree.TreeRoom.{size-all}
+use Rattle.spec.proofs.tree.Sizes.{weighs-all}
+use Rattle.spec.proofs.sets.Standing.{standing-empty}
+use Rattle.spec.proofs.reading.Floats.{floats-held}
+use Rattle.spec.proofs.once.Linear.{at-depth}
+use Rattle.spec.proofs.once.Leaves.{weightless}
+use Rattle.layout.specs.Layout.{nodeLimit, nodeCount}
 use Rattle.layout.specs.Rows.{cap}
 use Rattle.layout.specs.Changes.{Outside, Wrote, Still}
 use Rattle.layout.specs.Regions.{writing}
@@ -26,20 +26,20 @@ use Rattle.layout.specs.States.{setsOf, entriesOf, orderOf, stateOf, moduleIn, 
 use Rattle.layout.proofs.RowLaws.{length-rows, cap-lim}
 use Rattle.layout.proofs.Frames.{sets-kept, entries-kept, waiting-kept}
 use Rattle.layout.proofs.WriteLaws.{still-then}
-use Rattle.soundness.proofs.ModuleLaws.{accepted-module}
+use Rattle.spec.proofs.sound.Lowered.{accepted-module}
 use Rattle.soundness.proofs.FitLaws.{coded-fits}
 use Rattle.store.proofs.CodedLaws.{fine-kept}
 use Rattle.store.specs.Work.{Work, workOf, noWork, lowering, Fine}
 use Rattle.store.specs.Readers.{SetEntry}
-use Rattle.merging.proofs.RankLaws.{in-order-none}
+use Rattle.open_sets.proofs.RankLaws.{in-order-none}
 use Rattle.merge.specs.Room.{Resource, exprs, items, names, diagnostics, sets, entries, level, perNode, price, ownNode}
-use Rattle.merge.specs.Lowers.{Ready, Setting, Lowered, Floats}
+use Rattle.merge.specs.Lowers.{Lowerable, Setting, Lowered, Floats}
 use Rattle.lower.specs.Sizes.{sized, below}
 use Rattle.lower.specs.Parts.{LowersNode}
 use Rattle.lower.specs.Whole.{Whole, LowersAll}
 
 -- there are no more nodes than there is room for
-few-nodes : (s : List ℕ) → length (nodesOf s) ≤ 4096
+few-nodes : (s : List ℕ) → length (nodesOf s) ≤ nodeLimit
 unfolding nodesOf
 few-nodes s = omega (arith, length-rows (nodeIn s) (cap (word s nodeCount) nodeLimit), cap-lim (word s nodeCount) nodeLimit)
 
@@ -49,7 +49,7 @@ module _ (s : List ℕ) (fine : Fine s) (no-work : workOf s ≡ noWork) where
   unfolding workOf noWork
   state-none = ap (λ (w : Work). w .lowered) no-work
 
-  ready-none : Ready s
+  ready-none : Lowerable s
   unfolding workOf noWork stateOf
   ready-none = record {
     fine = fine;
@@ -73,7 +73,7 @@ module _ (s : List ℕ) (fine : Fine s) (no-work : workOf s ≡ noWork) where
         room = λ k. rw no-work (go (omega (arith, l)) k);
       }
     where
-      go : sized (nodesOf s) 0 ≤ 4096 → (k : Resource) → level k noWork + (perNode k * (sized (nodesOf s) 0 - 1) + ownNode k) ≤ perNode k * 4096
+      go : sized (nodesOf s) 0 ≤ nodeLimit → (k : Resource) → level k noWork + (perNode k * (sized (nodesOf s) 0 - 1) + ownNode k) ≤ perNode k * nodeLimit
       go h exprs = omega arith
       go h items = omega arith
       go h names = omega arith

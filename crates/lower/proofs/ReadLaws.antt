@@ -21,7 +21,7 @@ use Rattle.module.specs.declared.expr.Pattern.the-variants as pattern-kind
 use Rattle.module.specs.declared.ids.MaybeNode.{MaybeNode}
 use Rattle.module.specs.declared.ids.MaybeNode.the-variants as maybe-node
 use Rattle.module.specs.declared.ids.NodeId as code-id
-use Rattle.layout.specs.Layout.{nodesAt, kidLimit}
+use Rattle.layout.specs.Layout.{kidLimit, nodeRow, nodesAt}
 use Rattle.layout.specs.Nodes.{firstKid, nodesOf}
 use Rattle.layout.specs.States.{stateOf}
 use Rattle.layout.proofs.RowLaws.{cap-lim}
@@ -30,11 +30,11 @@ use Rattle.keys.specs.Items.{Next}
 use Rattle.keys.specs.declared.items.NextItem.{NextItem}
 use Rattle.keys.specs.declared.items.NextItem.the-variants.{End, Item}
 use Rattle.keys.proofs.ItemLaws.{items-are, items-after-are}
-use Rattle.merging.specs.Entries.{maybeSetOf}
-use Rattle.merging.specs.declared.entry.SetId as code-set
-use Rattle.merging.specs.declared.entry.MaybeSet.{MaybeSet}
-use Rattle.merging.specs.declared.entry.MaybeSet.the-variants as maybe-set
-use Rattle.merge.specs.Lowers.{Ready}
+use Rattle.open_sets.specs.Entries.{maybeSetOf}
+use Rattle.open_sets.specs.declared.entry.SetId as code-set
+use Rattle.open_sets.specs.declared.entry.MaybeSet.{MaybeSet}
+use Rattle.open_sets.specs.declared.entry.MaybeSet.the-variants as maybe-set
+use Rattle.merge.specs.Lowers.{Lowerable}
 use Rattle.lower.specs.Reads.{identOf, ownerOf, ellipsisOf, patternOf, HasParam, attrsFrom, FirstIn, NextIn, FirstEntry, nestedFor, intoOf, GoesInto}
 use Rattle.lower.specs.declared.reads.Param.{Param}
 use Rattle.lower.specs.declared.reads.IntoSet.{IntoSet}
@@ -91,12 +91,12 @@ module _ (nodes : List Node) (place : MaybeNode) where
 
 -- ---- items
 -- THEOREM. No node has more kids than the store has places for all of them.
-pub kids-few : (s : List ℕ) (n : NodeId) → length (nodeAt (nodesOf s) n .kids) ≤ 16384
+pub kids-few : (s : List ℕ) (n : NodeId) → length (nodeAt (nodesOf s) n .kids) ≤ kidLimit
 unfolding firstKid
 kids-few s n = go (ltb n (length (nodesOf s))) refl
   where
-    go : (b : Bool) → ltb n (length (nodesOf s)) ≡ b → length (nodeAt (nodesOf s) n .kids) ≤ 16384
-    go true q = omega (arith, kids-many s n (firstKid s n) (firstKid s (n + 1)) (ltb-true n _ q) refl refl, cap-lim (word s (nodesAt + 24 * (n + 1))) kidLimit)
+    go : (b : Bool) → ltb n (length (nodesOf s)) ≡ b → length (nodeAt (nodesOf s) n .kids) ≤ kidLimit
+    go true q = omega (arith, kids-many s n (firstKid s n) (firstKid s (n + 1)) (ltb-true n _ q) refl refl, cap-lim (word s (nodesAt + nodeRow * (n + 1))) kidLimit)
     go false q = omega (arith, kids-none s n (ltb-false n _ q))
 
 -- the next item of a node, as that of a place
@@ -144,7 +144,7 @@ module _ (s : List ℕ) (z : SetId) (key : Text) (v : code-id.NodeId) (k : ℕ) 
       go none = refl
       go (some t) = rw (← e, ne-eqb k 16 h)
 
-  module _ (h : k ≡ 16) (m : MaybeSet) (g : Ready s → maybeSetOf m ≡ nestedAt (find z key (stateOf s)) (stateOf s)) where
+  module _ (h : k ≡ 16) (m : MaybeSet) (g : Lowerable s → maybeSetOf m ≡ nestedAt (find z key (stateOf s)) (stateOf s)) where
     pub into-merged : (t : code-set.SetId) → m ≡ maybe-set.Set t → GoesInto s z key (some (v .0)) (Merged t v)
     unfolding intoOf nestedFor maybeSetOf
     into-merged t q = record { says = λ c. rw (← g c, q, ← e, eq-eqb k 16 h) }

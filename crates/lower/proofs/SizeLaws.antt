@@ -9,12 +9,12 @@ use lib.Dec.{eqb}
 use Rattle.spec.specs.Basics.{NodeId, if_then_else_}
 use Rattle.spec.specs.Sheet.{Node}
 use Rattle.spec.specs.Keys.{kind, kid, kidOf}
-use Rattle.spec.proofs.Sizes.{Weighs, placeSize, positive, places-three, first-and-rest}
+use Rattle.spec.proofs.tree.Sizes.{Weighs, placeSize, positive, places-three, first-and-rest}
 use Rattle.keys.proofs.ItemLaws.{items-after-are}
 use Rattle.module.specs.Ids.{nodeOf}
 use Rattle.lower.specs.Sizes.{sized, below, sizes, place, heft}
-use Rattle.lower.specs.Reads.{HasPlaces, HasParam, identOf, ownerOf, attrsFrom}
-use Rattle.lower.specs.declared.reads.Places.{Places}
+use Rattle.lower.specs.Reads.{HasChildren, HasParam, identOf, ownerOf, attrsFrom}
+use Rattle.lower.specs.declared.reads.Children.{Children}
 use Rattle.lower.specs.declared.reads.Param.{Param}
 
 pub place-size : (nodes : List Node) (p : Option NodeId) → place nodes p ≡ placeSize nodes p
@@ -54,7 +54,7 @@ module _ {nodes : List Node} (w : Weighs nodes) where
   kid-below n = omega (arith, places-below n)
 
   -- the places as the code has read them
-  pub three-below : {n : NodeId} {at : Places} → HasPlaces nodes n at → place nodes (nodeOf (at .first)) + place nodes (nodeOf (at .second)) + place nodes (nodeOf (at .third)) ≤ below n nodes
+  pub three-below : {n : NodeId} {at : Children} → HasChildren nodes n at → place nodes (nodeOf (at .first)) + place nodes (nodeOf (at .second)) + place nodes (nodeOf (at .third)) ≤ below n nodes
   three-below {n} h = rw (h .first, h .second, h .third) (places-below n)
 
   -- ---- the parameter of a Lambda: the Ident, and the fields of the pattern

@@ -13,19 +13,20 @@ use Rattle.spec.specs.Merge.{find, nestedAt, entriesOf}
 use Rattle.module.specs.Ids.{nodeOf, pointerOf}
 use Rattle.module.specs.declared.expr.Pattern.{Pattern}
 use Rattle.module.specs.declared.expr.Pattern.the-variants.{Absent, Closed, Ellipsis}
+use Rattle.layout.specs.Layout.{kidLimit}
 use Rattle.layout.specs.Nodes.{nodesOf}
 use Rattle.layout.specs.States.{stateOf}
 use Rattle.keys.specs.Items.{itemsFrom}
 use Rattle.keys.specs.declared.items.NextItem.{NextItem}
 use Rattle.keys.specs.declared.items.NextItem.the-variants.{End, Item}
-use Rattle.merge.specs.Lowers.{Ready}
-use Rattle.lower.specs.declared.reads.Places.{Places}
+use Rattle.merge.specs.Lowers.{Lowerable}
+use Rattle.lower.specs.declared.reads.Children.{Children}
 use Rattle.lower.specs.declared.reads.Param.{Param}
 use Rattle.lower.specs.declared.reads.IntoSet.{IntoSet}
 use Rattle.lower.specs.declared.reads.IntoSet.the-variants.{Merged, Other}
 
 -- ---- a node: its counted places and its pointer
-pub record HasPlaces (nodes : List Node) (n : NodeId) (r : Places) : Type 0 where
+pub record HasChildren (nodes : List Node) (n : NodeId) (r : Children) : Type 0 where
   pub first : nodeOf (r .first) ≡ kid nodes 0 n
   pub second : nodeOf (r .second) ≡ kid nodes 1 n
   pub third : nodeOf (r .third) ≡ kid nodes 2 n
@@ -65,7 +66,7 @@ attrsFrom nodes i (some n) = itemsFrom nodes i n
 pub record FirstIn (nodes : List Node) (i : ℕ) (place : Option NodeId) (k : NodeId) (j : ℕ) : Type 0 where
   pub items : attrsFrom nodes i place ≡ k ∷ attrsFrom nodes j place
   pub onward : i < j
-  pub inside : j ≤ 16384
+  pub inside : j ≤ kidLimit
 
 unfoldable pub NextIn : List Node → ℕ → Option NodeId → NextItem → Type 0
 NextIn nodes i place End = attrsFrom nodes i place ≡ []
@@ -87,4 +88,4 @@ intoOf (Merged t v) = some (t .0, v .0)
 intoOf Other = none
 
 pub record GoesInto (store : List ℕ) (s : SetId) (key : Text) (value : Option NodeId) (r : IntoSet) : Type 0 where
-  pub says : Ready store → intoOf r ≡ nestedFor (nodesOf store) (nestedAt (find s key (stateOf store)) (stateOf store)) value
+  pub says : Lowerable store → intoOf r ≡ nestedFor (nodesOf store) (nestedAt (find s key (stateOf store)) (stateOf store)) value

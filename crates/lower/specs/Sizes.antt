@@ -6,8 +6,8 @@ use lib.Dec.{eqb}
 use Rattle.spec.specs.Basics.{NodeId, if_then_else_}
 use Rattle.spec.specs.Sheet.{Node}
 use Rattle.spec.specs.Keys.{kind}
-use Rattle.spec.proofs.Sums.{sumBy}
-use Rattle.spec.proofs.TreeRoom.{size}
+use Rattle.spec.proofs.general.Sums.{sumBy}
+use Rattle.spec.proofs.tree.TreeRoom.{size}
 
 -- the nodes of a node's subtree
 unfoldable pub sized : List Node → NodeId → ℕ

@@ -1,4 +1,5 @@
-// Lowering and merging, which call each other: impl LowerCtx and impl MergingSet of lower.rs.
+// Lowering and merging, which call each other: impl LowerCtx and impl MergingSet of lower.rs. What is in quotes is a
+// rule of docs/RULES.md, "Lowering".
 //
 // `depth` is how many levels of nodes are left; nodes of an accepted sheet are never deeper. Lists wait
 // as items until the expression that has them is allocated.
@@ -33,11 +34,11 @@ use crate::leaves::missing_node;
 use crate::leaves::pair_form;
 use crate::leaves::uri;
 use crate::reads::IntoSet;
+use crate::reads::children_of;
 use crate::reads::first_entry;
 use crate::reads::into_set;
 use crate::reads::next_in;
 use crate::reads::param_of;
-use crate::reads::places_of;
 use intake::kid;
 use intake::node_flag;
 use intake::node_kind;
@@ -57,11 +58,6 @@ use merge::finish_set;
 use merge::get_or_create_nested_static;
 use merge::inherit_value;
 use merge::merge_static_value;
-use merging::SetId;
-use merging::cut;
-use merging::entry_count;
-use merging::open_set;
-use merging::set_count;
 use module::BindingValue;
 use module::Expr;
 use module::ExprId;
@@ -74,6 +70,11 @@ use module::NameKind;
 use module::NodeId;
 use module::Pointer;
 use module::TextId;
+use open_sets::SetId;
+use open_sets::cut;
+use open_sets::entry_count;
+use open_sets::open_set;
+use open_sets::set_count;
 use store::alloc_expr;
 use store::alloc_missing;
 use store::push_item;
@@ -146,7 +147,7 @@ fn pair(store: &mut [u8], depth: u32, n: NodeId, kind: u32) -> ExprId
     requires { ⌜ Long (now store) ⌝ }
     ensures { λ r. ⌜ Lowering 0 (below (n .0)) ownNode (λ nodes. lowering.pair nodes (lowerAt depth nodes) (mergeAt depth nodes) (formOf kind) (n .0)) (now (store .entry)) (r .0) (now (store .exit)) ⌝ }
 {
-    let at = places_of(store, n);
+    let at = children_of(store, n);
     let first = at.first;
     let second = at.second;
     let p = at.pointer;
@@ -160,7 +161,7 @@ fn cond(store: &mut [u8], depth: u32, n: NodeId) -> ExprId
     requires { ⌜ Long (now store) ⌝ }
     ensures { λ r. ⌜ Lowering 0 (below (n .0)) ownNode (λ nodes. lowerIfElse nodes (lowerAt depth nodes) (mergeAt depth nodes) (n .0)) (now (store .entry)) (r .0) (now (store .exit)) ⌝ }
 {
-    let at = places_of(store, n);
+    let at = children_of(store, n);
     let first = at.first;
     let second = at.second;
     let third = at.third;
@@ -177,7 +178,7 @@ fn get(store: &mut [u8], depth: u32, n: NodeId) -> ExprId
     ensures { λ r. ⌜ Lowering 0 (below (n .0)) ownNode (λ nodes. lowerSelect nodes (lowerAt depth nodes) (mergeAt depth nodes) (n .0)) (now (store .entry)) (r .0) (now (store .exit)) ⌝ }
 {
     let base = waiting_count(store);
-    let at = places_of(store, n);
+    let at = children_of(store, n);
     let first = at.first;
     let second = at.second;
     let third = at.third;
@@ -194,7 +195,7 @@ fn has(store: &mut [u8], depth: u32, n: NodeId) -> ExprId
     ensures { λ r. ⌜ Lowering 0 (below (n .0)) ownNode (λ nodes. lowerHasAttr nodes (lowerAt depth nodes) (mergeAt depth nodes) (n .0)) (now (store .entry)) (r .0) (now (store .exit)) ⌝ }
 {
     let base = waiting_count(store);
-    let at = places_of(store, n);
+    let at = children_of(store, n);
     let first = at.first;
     let second = at.second;
     let p = at.pointer;
@@ -306,7 +307,7 @@ fn lambda(store: &mut [u8], depth: u32, n: NodeId) -> ExprId
     ensures { λ r. ⌜ Lowering 0 (below (n .0)) ownNode (λ nodes. lowerLambda nodes (lowerAt depth nodes) (mergeAt depth nodes) (n .0)) (now (store .entry)) (r .0) (now (store .exit)) ⌝ }
 {
     let base = waiting_count(store);
-    let at = places_of(store, n);
+    let at = children_of(store, n);
     let first = at.first;
     let second = at.second;
     let p = at.pointer;
@@ -342,7 +343,7 @@ fn field(store: &mut [u8], depth: u32, n: NodeId)
     requires { ⌜ Long (now store) ⌝ }
     ensures { λ _. ⌜ Collecting 0 (λ nodes. sized nodes (n .0)) nothing (one fieldItem) (λ nodes. lowerField nodes (lowerAt depth nodes) (mergeAt depth nodes) (n .0)) (now (store .entry)) (now (store .exit)) ⌝ }
 {
-    let at = places_of(store, n);
+    let at = children_of(store, n);
     let first = at.first;
     let second = at.second;
     let x = lower_name(store, NameKind::PatField, first);
@@ -356,7 +357,7 @@ fn let_in(store: &mut [u8], depth: u32, n: NodeId) -> ExprId
     ensures { λ r. ⌜ Lowering 0 (below (n .0)) ownNode (λ nodes. lowerLetIn nodes (lowerAt depth nodes) (mergeAt depth nodes) (n .0)) (now (store .entry)) (r .0) (now (store .exit)) ⌝ }
 {
     let base = waiting_count(store);
-    let at = places_of(store, n);
+    let at = children_of(store, n);
     let first = at.first;
     let p = at.pointer;
     binds(store, depth, NameKind::LetIn, n);
@@ -389,7 +390,7 @@ fn binop(store: &mut [u8], depth: u32, n: NodeId) -> ExprId
     requires { ⌜ Long (now store) ⌝ }
     ensures { λ r. ⌜ Lowering 0 (below (n .0)) ownNode (λ nodes. lowerBinOp nodes (lowerAt depth nodes) (mergeAt depth nodes) (n .0)) (now (store .entry)) (r .0) (now (store .exit)) ⌝ }
 {
-    let at = places_of(store, n);
+    let at = children_of(store, n);
     let first = at.first;
     let second = at.second;
     let p = at.pointer;
@@ -420,7 +421,7 @@ fn unop(store: &mut [u8], depth: u32, n: NodeId) -> ExprId
     requires { ⌜ Long (now store) ⌝ }
     ensures { λ r. ⌜ Lowering 0 (below (n .0)) ownNode (λ nodes. lowerUnaryOp nodes (lowerAt depth nodes) (mergeAt depth nodes) (n .0)) (now (store .entry)) (r .0) (now (store .exit)) ⌝ }
 {
-    let at = places_of(store, n);
+    let at = children_of(store, n);
     let first = at.first;
     let p = at.pointer;
     let op = node_flag(store, n);
@@ -540,7 +541,7 @@ fn put(store: &mut [u8], depth: u32, s: SetId, n: NodeId)
     requires { ⌜ Long (now store) ⌝ }
     ensures { λ _. ⌜ Lowering (suc (s .0)) (λ nodes. sized nodes (n .0)) nothing (λ nodes. mergeAttrpathVal nodes (lowerAt depth nodes) (mergeAt depth nodes) (s .0) (n .0)) (now (store .entry)) tt (now (store .exit)) ⌝ }
 {
-    let at = places_of(store, n);
+    let at = children_of(store, n);
     let first = at.first;
     let second = at.second;
     match next_in(store, first, 0) {

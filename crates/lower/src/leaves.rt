@@ -1,4 +1,4 @@
-// What is allocated without lowering anything below it.
+// What is allocated without lowering anything below it (docs/RULES.md, "From nodes to expressions").
 ghost use mathlib.Core.Path.{_≡_};
 ghost use mathlib.Core.List.{[]};
 ghost use lib.Dec.{eqb};

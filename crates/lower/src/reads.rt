@@ -7,7 +7,7 @@ ghost use mathlib.Core.Option.{some};
 ghost use lib.Dec.{eqb};
 ghost use Rattle.spec.specs.Keys.{flag, kidOf};
 ghost use Rattle.module.specs.Ids.{nodeOf};
-ghost use Rattle.lower.specs.Reads.{HasPlaces, HasParam, patternOf, NextIn, FirstEntry, GoesInto};
+ghost use Rattle.lower.specs.Reads.{HasChildren, HasParam, patternOf, NextIn, FirstEntry, GoesInto};
 use intake::kid;
 use intake::node_flag;
 use intake::node_kind;
@@ -15,27 +15,27 @@ use intake::node_pointer;
 use keys::NextItem;
 use keys::next_item;
 use merge::nested_at;
-use merging::MaybeSet;
-use merging::SetId;
 use module::MaybeNode;
 use module::NodeId;
 use module::Pattern;
 use module::Pointer;
 use module::TextId;
+use open_sets::MaybeSet;
+use open_sets::SetId;
 
 // The counted places of a node, of which none has more than three, and its pointer.
-pub struct Places {
+pub struct Children {
     pub first: MaybeNode,
     pub second: MaybeNode,
     pub third: MaybeNode,
     pub pointer: Pointer,
 }
 
-pub fn places_of(store: &[u8], n: NodeId) -> Places
+pub fn children_of(store: &[u8], n: NodeId) -> Children
     requires { ⌜ Long (now store) ⌝ }
-    ensures { λ r. ⌜ HasPlaces (nodesOf (now (store .entry))) (n .0) r ⌝ }
+    ensures { λ r. ⌜ HasChildren (nodesOf (now (store .entry))) (n .0) r ⌝ }
 {
-    Places {
+    Children {
         first: kid(store, n, 0),
         second: kid(store, n, 1),
         third: kid(store, n, 2),

@@ -1,40 +1,32 @@
 -- The store's own steps, as steps of lowering. Assumes nothing.
 use mathlib.Core.Path.{_≡_, refl, sym, ap, _∙_}
 use mathlib.Core.Bool.{true}
-use mathlib.Core.List.{List, [], _∷_, _++_}
+use mathlib.Core.List.{List, [], _∷_, _++_, append-nil}
 use Prim.Native.Nat.{ℕ, _+_, _≤_}
 use native.Mathlib.Omega.{arith}
-use lib.ListN.{length, take, drop, length-append}
+use lib.ListN.{length, length-append}
+use lib.Seq.{drop-append-seam, take-append-seam}
 use lib.Dec.{ltb, leb}
 use borrow.Author.Tests.{lt-ltb, le-leb}
 use Rattle.spec.specs.Basics.{Text}
 use Rattle.spec.specs.Sheet.{Node}
 use Rattle.spec.specs.Module.{Pointer, Made, NameKind}
 use Rattle.spec.specs.Steps.{give}
-use Rattle.spec.specs.State.{State, Low, newMade, allocMissing, allocName, addDuplicate}
-use Rattle.spec.proofs.Standing.{standing-same}
+use Rattle.spec.specs.State.{State, Low, newMade, allocMissing, allocName}
+use Rattle.spec.proofs.sets.Standing.{standing-same}
 use Rattle.layout.specs.Layout.{exprLimit, itemLimit, waitingLimit}
 use Rattle.layout.specs.Exprs.{Item}
 use Rattle.layout.specs.States.{setsOf, orderOf, stateOf, waitingOf, usedOf}
 use Rattle.store.specs.Codes.{holeMade}
-use Rattle.store.specs.Work.{Work, workOf, suits, Fine, Did, Takes, takeRow, takeLone, pushItem, putName, nameWith, putDuplicate}
-use Rattle.merging.specs.Ranks.{sorted}
-use Rattle.merge.specs.Room.{Resource, exprs, items, names, diagnostics, sets, entries, level, perNode, Price, price, oneExpr, oneItem, oneName, oneDuplicate}
-use Rattle.merge.specs.Lowers.{Ready, Setting, Lowered, Lowers}
+use Rattle.store.specs.Work.{Work, workOf, suits, Fine, Did, Takes, takeRow, takeLone, pushItem, putName, nameWith}
+use Rattle.open_sets.specs.Ranks.{sorted}
+use Rattle.merge.specs.Room.{Resource, exprs, items, names, diagnostics, sets, entries, level, perNode, Price, price, oneExpr, oneItem, oneName}
+use Rattle.merge.specs.Lowers.{Lowerable, Setting, Lowered, Lowers}
 use Rattle.merge.proofs.MergeSteps.{merged-whole}
-use Rattle.merge.proofs.SetSteps.{key-named, key-told}
-
--- ---- lists
-drop-all : {A : Type 0} (l m : List A) → drop (length l) (l ++ m) ≡ m
-drop-all [] m = refl
-drop-all (a ∷ l) m = drop-all l m
-
-pub take-all : {A : Type 0} (l m : List A) → take (length l) (l ++ m) ≡ l
-take-all [] m = refl
-take-all (a ∷ l) m = ap (λ z. a ∷ z) (take-all l m)
+use Rattle.merge.proofs.SetSteps.{key-named}
 
 -- ---- where the sets and the run are as they were
-pub ready-same : (s t : List ℕ) → Ready s → Fine t → orderOf t ≡ orderOf s → stateOf t .sets ≡ stateOf s .sets → stateOf t .entries ≡ stateOf s .entries → Ready t
+pub ready-same : (s t : List ℕ) → Lowerable s → Fine t → orderOf t ≡ orderOf s → stateOf t .sets ≡ stateOf s .sets → stateOf t .entries ≡ stateOf s .entries → Lowerable t
 unfolding stateOf
 ready-same s t r f o z e = record {
   fine = f;
@@ -67,10 +59,10 @@ pub row-taken : (sort : ℕ) (make : List Item → Made) (w is : List Item) {bas
     → Takes sort make base s r t → (_≡_ {A = ℕ × Work} (r, workOf t) (length (stateOf s .exprs), rowTaken (make is) w (length is) s)) × Fine t
 unfolding workOf takeRow
 row-taken sort make w is {s = s} fit f e b h k d =
-    let z = d .does f (rw (e, b, drop-all w is) fit) in
+    let z = d .does f (rw (e, b, drop-append-seam w is) fit) in
     let l : ltb (length (stateOf s .exprs)) exprLimit ≡ true = lt-ltb (length (stateOf s .exprs)) exprLimit (omega (arith, h)) in
     let m : leb (usedOf s + length is) itemLimit ≡ true = le-leb (usedOf s + length is) itemLimit k in
-    (rw (e, b, drop-all w is, take-all w is, l, m) at (z .0), z .1)
+    (rw (e, b, drop-append-seam w is, take-append-seam w is, l, m) at (z .0), z .1)
 
 -- the work after one item more
 abbrev pub itemPushed : Item → List ℕ → Work
@@ -107,10 +99,6 @@ taken {w = w} sort make is {base} {s} {r} {t} fit b d = record {
     go c sets = omega arith
     go c entries = omega arith
 
-pub append-none : {A : Type 0} (l : List A) → l ++ [] ≡ l
-append-none [] = refl
-append-none (a ∷ l) = ap (λ z. a ∷ z) (append-none l)
-
 pub none-suit : (sort : ℕ) → suits sort [] ≡ true
 unfolding suits
 none-suit sort = refl
@@ -118,8 +106,8 @@ none-suit sort = refl
 -- An expression without items.
 pub taken-lone : {nodes : List Node} {w : List Item} {top : ℕ} (sort : ℕ) (make : List Item → Made) {base : ℕ} {s : List ℕ} {r : ℕ} {t : List ℕ} → base ≡ length (waitingOf s) → Takes sort make base s r t → Lowers nodes w w top 0 oneExpr (newMade (make [])) s r t
 taken-lone {nodes} {w} {top} sort make {s = s} {r = r} {t = t} b d =
-    let x : Lowers nodes (w ++ []) w top 0 oneExpr (newMade (make [])) s r t = taken sort make [] (none-suit sort) (λ e. b ∙ ap length (e ∙ append-none w)) d in
-    rw (append-none w) at x
+    let x : Lowers nodes (w ++ []) w top 0 oneExpr (newMade (make [])) s r t = taken sort make [] (none-suit sort) (λ e. b ∙ ap length (e ∙ append-nil w)) d in
+    rw (append-nil w) at x
 
 pub missing-taken : {nodes : List Node} {w : List Item} {top : ℕ} {s : List ℕ} {r : ℕ} {t : List ℕ} → Did (takeLone holeMade) s r t → Lowers nodes w w top 0 oneExpr allocMissing s r t
 unfolding allocMissing takeLone holeMade workOf
@@ -149,7 +137,3 @@ pushed {w = w} i {s} {t} d = record {
 pub named : {nodes : List Node} {w : List Item} {top : ℕ} (x : Text) (k : NameKind) (p : Pointer) {s : List ℕ} {r : ℕ} {t : List ℕ} → Did (putName (nameWith x k p)) s r t → Lowers nodes w w top 0 oneName (allocName x k p) s r t
 unfolding allocName
 named x k p {s = s} d = merged-whole (λ h. standing-same (stateOf s) (allocName x k p (stateOf s) .1) refl refl) (omega arith) (key-named x k p d)
-
-pub told : {nodes : List Node} {w : List Item} {top : ℕ} (key : Text) (first second : Pointer) {s t : List ℕ} → Did (putDuplicate key first second) s tt t → Lowers nodes w w top 0 oneDuplicate (addDuplicate key first second) s tt t
-unfolding addDuplicate
-told key first second {s = s} d = merged-whole (λ h. standing-same (stateOf s) (addDuplicate key first second (stateOf s) .1) refl refl) (omega arith) (key-told key first second d)

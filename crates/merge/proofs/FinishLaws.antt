@@ -1,7 +1,7 @@
 -- Finishing a set, function by function. Assumes nothing.
 use mathlib.Core.Path.{_≡_, refl, sym, ap, _∙_}
 use mathlib.Core.Bool.{false}
-use mathlib.Core.List.{List, [], _∷_, _++_, append-assoc}
+use mathlib.Core.List.{List, [], _∷_, _++_, append-assoc, append-nil}
 use mathlib.Core.Option.{Option, none, some}
 use Prim.Native.Nat.{ℕ, suc, _+_, _-_, _≤_, _<_}
 use native.Mathlib.Omega.{arith}
@@ -12,8 +12,8 @@ use Rattle.spec.specs.Steps.{_>>=_, give, asks, each}
 use Rattle.spec.specs.State.{SetId, MergingEntry, State, Low, newMade, allocExpr}
 use Rattle.spec.specs.State as state
 use Rattle.spec.specs.Merge.{setAt, finishValue, finishWith, finishTo, finishExpr, finish}
-use Rattle.spec.proofs.Forest.{total}
-use Rattle.spec.proofs.Loads.{load, loads}
+use Rattle.spec.proofs.sets.Loads.{load, loads}
+use Rattle.spec.proofs.general.Sums.{sumBy}
 use Rattle.module.specs.declared.expr.Expr.the-variants.{AttrSet}
 use Rattle.layout.specs.Changes.{Wrote, Still}
 use Rattle.layout.specs.Exprs.{Item, static}
@@ -23,11 +23,10 @@ use Rattle.layout.proofs.WriteLaws.{still-then}
 use Rattle.store.specs.Codes.{exprWith, exprMade, holeMade, sortFor}
 use Rattle.soundness.specs.Sound.{tagFits}
 use Rattle.store.specs.Work.{lowering, Did, Takes, takeLone, pushItem}
-use Rattle.merging.specs.Ranks.{InOrder, segment}
-use Rattle.merging.specs.Run.{runFrom}
-use Rattle.merge.specs.Lowers.{Ready}
-use Rattle.merge.specs.Finishes.{bindingItems, finishEntry, only, valueLoad, entryLoad, Begins, Kept, Finished, Finishing, Listing}
-use Rattle.merge.proofs.Allocs.{append-none}
+use Rattle.open_sets.specs.Ranks.{InOrder, segment}
+use Rattle.open_sets.specs.Run.{runFrom}
+use Rattle.merge.specs.Lowers.{Lowerable}
+use Rattle.merge.specs.Finishes.{bindingItems, finishEntry, only, valueLoad, entryLoad, Begins, ExprsOnly, Finished, Finishing, Listing}
 use Rattle.merge.proofs.Items.{bindings-items, segment-becomes, segment-takes, bindings-suit}
 use Rattle.merge.proofs.FinishSteps.{kept-none, kept-then, order-same, begins-less, begins-then, finished-then, finished-as, finished-with, listing-of, taken, missing-taken, pushed}
 
@@ -72,7 +71,7 @@ left set s j = runFrom set (entriesOf s) (orderOf s) j
 
 -- what they take, with the entries of s
 abbrev leftLoad : ℕ → SetId → List ℕ → List ℕ → ℕ → ℕ
-leftLoad bound set s t j = total (entryLoad (load (entriesOf s) bound)) (left set t j)
+leftLoad bound set s t j = sumBy (entryLoad (load (entriesOf s) bound)) (left set t j)
 
 -- more items before those that a step gave
 abbrev onto : List Item → List Item × State → List Item × State
@@ -87,8 +86,8 @@ each-one f a as′ made st st′ e = rw e (ap (λ z. (z, each f as′ st′ .1))
 record Gone (bound : ℕ) (set : SetId) (w : List Item) (s : List ℕ) (i : ℕ) (t : List ℕ) (j : ℕ) : Type 0 where
   made : List Item
   waits : waitingOf t ≡ w ++ made
-  ready : Ready t
-  kept : Kept (stateOf s) (stateOf t)
+  ready : Lowerable t
+  kept : ExprsOnly (stateOf s) (stateOf t)
   same : each (finishEntry (finishTo bound)) (left set s i) (stateOf s) ≡ onto made (each (finishEntry (finishTo bound)) (left set t j) (stateOf t))
   exprs-few : length (stateOf t .exprs) + leftLoad bound set s t j ≤ length (stateOf s .exprs) + leftLoad bound set s s i
   items-few : usedOf t + length (waitingOf t) + leftLoad bound set s t j ≤ usedOf s + length (waitingOf s) + leftLoad bound set s s i
@@ -103,7 +102,7 @@ pub going-none : (bound : ℕ) (set : SetId) (s : List ℕ) (i : ℕ) → Going 
 going-none bound set s i = record {
   wrote = wrote-none lowering s;
   still = record { same = refl; used = refl };
-  does = λ w b. record { made = []; waits = b .waiting-are ∙ sym (append-none w); ready = b .ready; kept = kept-none (stateOf s); same = refl; exprs-few = omega arith; items-few = omega arith };
+  does = λ w b. record { made = []; waits = b .waiting-are ∙ sym (append-nil w); ready = b .ready; kept = kept-none (stateOf s); same = refl; exprs-few = omega arith; items-few = omega arith };
 }
 
 pub going-more : {bound : ℕ} {set : SetId} {s u t : List ℕ} {i j : ℕ} {e : MergingEntry} → Going bound set s i u j
@@ -125,7 +124,7 @@ going-more {bound} {set} {s} {u} {t} {i} {j} {e} g next x = record {
     go : (w : List Item) → Begins w (leftLoad bound set s s i) s → Gone bound set w s i u j → Gone bound set w s i t (j + 1)
     go w b h =
         let takes : entryLoad (load (entriesOf u) bound) e ≡ k e = ap (λ es. entryLoad (load es bound) e) (h .kept .entries-same) in
-        let before : leftLoad bound set s u j ≡ k e + leftLoad bound set s u (j + 1) = ap (total k) next in
+        let before : leftLoad bound set s u j ≡ k e + leftLoad bound set s u (j + 1) = ap (sumBy k) next in
         let c : Begins (w ++ h .made) (entryLoad (load (entriesOf u) bound) e) u = record {
           ready = h .ready;
           waiting-are = h .waits;
@@ -141,8 +140,8 @@ going-more {bound} {set} {s} {u} {t} {i} {j} {e} g next x = record {
           ready = l .ready;
           kept = kept-then (h .kept) (l .kept);
           same = h .same ∙ (ap (λ as′. onto (h .made) (each f as′ (stateOf u))) next ∙ (each-one f e (left set u (j + 1)) (h .made) (stateOf u) (stateOf t) (sym (ap (λ z. z .1) (l .same))) ∙ ap (λ as′. onto (h .made ++ (item ∷ [])) (each f as′ (stateOf t))) (sym after)));
-          exprs-few = omega (arith, takes, before, ap (total k) after, h .exprs-few, l .exprs-few);
-          items-few = omega (arith, takes, before, ap (total k) after, h .items-few, l .items-few);
+          exprs-few = omega (arith, takes, before, ap (sumBy k) after, h .exprs-few, l .exprs-few);
+          items-few = omega (arith, takes, before, ap (sumBy k) after, h .items-few, l .items-few);
         }
 
 -- the loop has come to the end of the set
@@ -159,12 +158,12 @@ going-done {bound} {set} {s} {t} {i} {j} g end begin = listing-of bindingItems (
     go w b =
         let k = entryLoad (load (entriesOf s) bound) in
         let all : left set s i ≡ segment set (entriesOf s) = begin (b .ready .order) in
-        let takes : leftLoad bound set s s i ≡ loads (entriesOf s) bound set = ap (total k) all ∙ segment-takes (load (entriesOf s) bound) set (entriesOf s) in
+        let takes : leftLoad bound set s s i ≡ loads (entriesOf s) bound set = ap (sumBy k) all ∙ segment-takes (load (entriesOf s) bound) set (entriesOf s) in
         let h = g .does w (begins-less (omega (arith, takes)) b) in
         let f = finishEntry (finishTo bound) in
         let whole : onto (h .made) ([], stateOf t) ≡ (bindingItems (p (stateOf s) .0), p (stateOf s) .1) =
         sym (h .same ∙ ap (λ as′. onto (h .made) (each f as′ (stateOf t))) end) ∙ (ap (λ as′. each f as′ (stateOf s)) all ∙ segment-becomes (finishTo bound) set (stateOf s)) in
-        let items : h .made ≡ bindingItems (p (stateOf s) .0) = sym (append-none (h .made)) ∙ ap (λ z. z .0) whole in (
+        let items : h .made ≡ bindingItems (p (stateOf s) .0) = sym (append-nil (h .made)) ∙ ap (λ z. z .0) whole in (
           p (stateOf s) .0,
           record {
             same = ap (λ z. (p (stateOf s) .0, z .1)) whole;

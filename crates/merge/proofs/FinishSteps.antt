@@ -1,7 +1,7 @@
 -- How steps that finish sets follow one another, and the store's own steps as such. Assumes nothing.
 use mathlib.Core.Path.{_≡_, refl, sym, ap, _∙_}
 use mathlib.Core.Bool.{true}
-use mathlib.Core.List.{List, [], _++_}
+use mathlib.Core.List.{List, [], _++_, append-nil}
 use Prim.Native.Nat.{ℕ, _+_, _≤_}
 use native.Mathlib.Omega.{arith}
 use lib.ListN.{length, length-append}
@@ -13,16 +13,16 @@ use Rattle.layout.specs.Exprs.{Item}
 use Rattle.layout.specs.States.{orderOf, stateOf, waitingOf, usedOf}
 use Rattle.store.specs.Codes.{holeMade}
 use Rattle.store.specs.Work.{Work, workOf, lowering, suits, Fine, Did, Takes, takeRow, takeLone, pushItem}
-use Rattle.merging.specs.Ranks.{sorted}
-use Rattle.merge.specs.Lowers.{Ready}
-use Rattle.merge.specs.Finishes.{Begins, Kept, Finished, Listing, only}
-use Rattle.merge.proofs.Allocs.{append-none, none-suit, ready-same, rowTaken, row-taken, itemPushed, item-pushed}
+use Rattle.open_sets.specs.Ranks.{sorted}
+use Rattle.merge.specs.Lowers.{Lowerable}
+use Rattle.merge.specs.Finishes.{Begins, ExprsOnly, Finished, Listing, only}
+use Rattle.merge.proofs.Allocs.{none-suit, ready-same, rowTaken, row-taken, itemPushed, item-pushed}
 
 -- ---- what is kept
-pub kept-none : (st : State) → Kept st st
+pub kept-none : (st : State) → ExprsOnly st st
 kept-none st = record { names-same = refl; diagnostics-same = refl; lost-same = refl; sets-same = refl; entries-same = refl }
 
-pub kept-then : {st mid after : State} → Kept st mid → Kept mid after → Kept st after
+pub kept-then : {st mid after : State} → ExprsOnly st mid → ExprsOnly mid after → ExprsOnly st after
 kept-then a b = record {
   names-same = b .names-same ∙ a .names-same;
   diagnostics-same = b .diagnostics-same ∙ a .diagnostics-same;
@@ -32,7 +32,7 @@ kept-then a b = record {
 }
 
 -- the run is as it was where the entries are
-pub order-same : {s t : List ℕ} → Ready s → Ready t → stateOf t .entries ≡ stateOf s .entries → orderOf t ≡ orderOf s
+pub order-same : {s t : List ℕ} → Lowerable s → Lowerable t → stateOf t .entries ≡ stateOf s .entries → orderOf t ≡ orderOf s
 unfolding stateOf
 order-same a b e = b .order .same ∙ (ap sorted e ∙ sym (a .order .same))
 
@@ -80,7 +80,7 @@ listing-of {A} {n} items {p} {s} {t} wrote still does = record { at = λ w. reco
 
 -- ---- a step of the store's own, with the work w after it
 by-work : {A : Type 0} {v v′ : List Item} {n : ℕ} {p : Low A} {s t : List ℕ} {r : A} (w : Work) → Begins v n s → workOf t ≡ w → Fine t
-    → _≡_ {A = A × State} (r, w .lowered) (p (stateOf s)) → w .waiting ≡ v′ → w .order ≡ orderOf s → Kept (stateOf s) (w .lowered)
+    → _≡_ {A = A × State} (r, w .lowered) (p (stateOf s)) → w .waiting ≡ v′ → w .order ≡ orderOf s → ExprsOnly (stateOf s) (w .lowered)
     → length (w .lowered .exprs) ≤ length (stateOf s .exprs) + n → w .used + length (w .waiting) ≤ usedOf s + length (waitingOf s) + n → Finished v′ n p s r t
 unfolding workOf
 by-work {s = s} {t = t} {r = r} w b e fine same waits order kept exprs-few items-few =
@@ -111,7 +111,7 @@ taken {w = w} sort make is {base} {s} fit b h d =
 pub missing-taken : {w : List Item} {s : List ℕ} {r : ℕ} {t : List ℕ} → Begins w 1 s → Did (takeLone holeMade) s r t → Finished w 1 allocMissing s r t
 unfolding allocMissing takeLone holeMade workOf
 missing-taken {w} {s} b d =
-    let c : Begins (w ++ []) 1 s = rw (append-none w) b in
+    let c : Begins (w ++ []) 1 s = rw (append-nil w) b in
     taken 0 holeMade [] {base = length (waitingOf s)} (none-suit 0) c (ap length (b .waiting-are)) (record { wrote = d .wrote; still = d .still; does = λ fine fit. d .does fine })
 
 -- an item

@@ -1,6 +1,6 @@
 -- The bindings of a set as items, and its entries as the items that they become. Assumes nothing.
 use mathlib.Core.Path.{_≡_, refl, ap, _∙_}
-use mathlib.Core.Bool.{true}
+use mathlib.Core.Bool.{true, and-eq-true-iff}
 use mathlib.Core.List.{List, [], _∷_, _++_, map}
 use mathlib.Core.Option.{Option, none, some}
 use Prim.Native.Nat.{ℕ, _+_}
@@ -11,13 +11,12 @@ use Rattle.spec.specs.Module.{BindingValue, Bindings}
 use Rattle.spec.specs.Steps.{_>>=_, give, asks, each}
 use Rattle.spec.specs.State.{SetId, MergingEntry, State, Low, source}
 use Rattle.spec.specs.Merge.{Static, staticsOf, sourcesOf, dynamicsOf, finishStatic, finishWith}
-use Rattle.spec.proofs.Forest.{total, total-append}
-use Rattle.spec.proofs.Loads.{staticLoad, loadIn, loads-parts}
+use Rattle.spec.proofs.sets.Loads.{staticLoad, loadIn, loads-parts}
+use Rattle.spec.proofs.general.Sums.{sumBy, sum-append}
 use Rattle.layout.specs.Exprs.{Item, child, children, statics, dynamics, bindings}
-use Rattle.spec.proofs.Subtrees.{and-true}
 use Rattle.soundness.specs.Sound.{tagFits}
 use Rattle.store.specs.Work.{tagFor, suits}
-use Rattle.merging.specs.Ranks.{staticEntry, dynamicEntry, inClasses, segment}
+use Rattle.open_sets.specs.Ranks.{staticEntry, dynamicEntry, inClasses, segment}
 use Rattle.merge.specs.Finishes.{staticItem, dynamicItem, bindingItems, finishEntry, valueLoad, entryLoad}
 
 -- ---- the bindings of items
@@ -116,23 +115,23 @@ module _ (w : SetId → ℕ) where
   static-takes none none = refl
 
   module _ (s : SetId) where
-    dynamics-take : (ds : List (ExprId × ExprId)) → total (entryLoad w) (map (dynamicEntry s) ds) ≡ length ds
+    dynamics-take : (ds : List (ExprId × ExprId)) → sumBy (entryLoad w) (map (dynamicEntry s) ds) ≡ length ds
     unfolding entryLoad
     dynamics-take [] = refl
     dynamics-take (d ∷ ds) = omega (arith, dynamics-take ds)
 
-    sources-take : (es : List ExprId) → total (entryLoad w) (map (source s) es) ≡ length es
+    sources-take : (es : List ExprId) → sumBy (entryLoad w) (map (source s) es) ≡ length es
     unfolding entryLoad
     sources-take [] = refl
     sources-take (e ∷ es) = omega (arith, sources-take es)
 
-    statics-take : (xs : List Static) → total (entryLoad w) (map (staticEntry s) xs) ≡ total (λ (x : Static). staticLoad w (x .nested) (x .value)) xs
+    statics-take : (xs : List Static) → sumBy (entryLoad w) (map (staticEntry s) xs) ≡ sumBy (λ (x : Static). staticLoad w (x .nested) (x .value)) xs
     unfolding entryLoad
     statics-take [] = refl
     statics-take (x ∷ xs) = omega (arith, static-takes (x .nested) (x .value), statics-take xs)
 
     -- THEOREM. All together what the set's entries take.
-    pub segment-takes : (es : List MergingEntry) → total (entryLoad w) (segment s es) ≡ total (loadIn s w) es
+    pub segment-takes : (es : List MergingEntry) → sumBy (entryLoad w) (segment s es) ≡ sumBy (loadIn s w) es
     unfolding inClasses
     segment-takes es =
         let a = map (staticEntry s) (staticsOf s es) in
@@ -140,8 +139,8 @@ module _ (w : SetId → ℕ) where
         let c = map (dynamicEntry s) (dynamicsOf s es) in
         omega (
           arith,
-          total-append (entryLoad w) a (b ++ c),
-          total-append (entryLoad w) b c,
+          sum-append (entryLoad w) a (b ++ c),
+          sum-append (entryLoad w) b c,
           statics-take (staticsOf s es),
           sources-take (sourcesOf s es),
           dynamics-take (dynamicsOf s es),
@@ -152,7 +151,7 @@ module _ (w : SetId → ℕ) where
 pub suits-both : (sort : ℕ) (is js : List Item) → suits sort is ≡ true → suits sort js ≡ true → suits sort (is ++ js) ≡ true
 unfolding suits
 suits-both sort [] js a b = b
-suits-both sort (i ∷ is) js a b = let z = and-true (tagFits sort (tagFor i)) (suits sort is) a in rw (z .0) (suits-both sort is js (z .1) b)
+suits-both sort (i ∷ is) js a b = let z = and-eq-true-iff (tagFits sort (tagFor i)) (suits sort is) .0 a in rw (z .0) (suits-both sort is js (z .1) b)
 
 pub suits-map : {A : Type 0} (sort : ℕ) (f : A → Item) → ((a : A) → tagFits sort (tagFor (f a)) ≡ true) → (xs : List A) → suits sort (map f xs) ≡ true
 unfolding suits

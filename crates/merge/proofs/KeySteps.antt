@@ -1,5 +1,5 @@
 -- One key merged into a set. Assumes nothing.
-use mathlib.Core.Path.{_≡_, refl, sym, ap, _∙_}
+use mathlib.Core.Path.{_≡_, refl, ap, _∙_}
 use mathlib.Core.List.{List}
 use mathlib.Core.Option.{Option, none, some}
 use Prim.Native.Nat.{ℕ, suc, _≤_}
@@ -12,18 +12,18 @@ use Rattle.spec.specs.State.{SetId, static, allocName, addDuplicate, newSet, ad
 use Rattle.spec.specs.Scopes.{nameAt}
 use Rattle.spec.specs.Lower.{moduleOf}
 use Rattle.spec.specs.Merge.{find, entryAt, setAt, nameIn, nestedIn, withValue, withNested, nestedAt, namePointer, nameKey, mergeValueAt, mergeStaticValue, newNested, nestedOr, nestedStaticAt, getOrCreateNestedStatic}
-use Rattle.spec.proofs.Standing.{standing-value, value-adds, standing-nested, nested-adds, nested-given, nested-below}
+use Rattle.spec.proofs.sets.Standing.{standing-value, value-adds, standing-nested, nested-adds, nested-given}
 use Rattle.layout.specs.Texts.{textIn}
 use Rattle.layout.specs.Exprs.{Item}
 use Rattle.layout.specs.States.{setsOf, entriesOf, orderOf, stateOf, moduleIn}
 use Rattle.layout.proofs.Frames.{text-still}
 use Rattle.store.specs.Work.{Did, putName, nameWith, putDuplicate}
-use Rattle.merging.specs.Ranks.{InOrder}
-use Rattle.merging.specs.Entries.{entryWith, openSet, change}
-use Rattle.merging.specs.declared.entry.Entry.{Entry}
-use Rattle.merging.specs.Run.{Entered}
+use Rattle.open_sets.specs.Ranks.{InOrder}
+use Rattle.open_sets.specs.Entries.{entryWith, openSet, change}
+use Rattle.open_sets.specs.declared.entry.Entry.{Entry}
+use Rattle.open_sets.specs.Run.{Entered}
 use Rattle.merge.specs.Room.{Price, price, nothing, _⊕_, covers, oneName, oneDuplicate, oneSet, oneEntry}
-use Rattle.merge.specs.Lowers.{Ready, Lowered, Lowering}
+use Rattle.merge.specs.Lowers.{Lowerable, Lowered, Lowering}
 use Rattle.merge.specs.Merges.{Merges, keyPrice, valuePrice, nestedPrice}
 use Rattle.merge.proofs.MergeSteps.{follow, given, questioned, in-other-words, allowed, merged-whole}
 use Rattle.merge.proofs.SetSteps.{key-named, key-told, set-opened, entry-added, value-changed, nested-changed}
@@ -115,7 +115,7 @@ unfolding getOrCreateNestedStatic oneSet nestedPrice price covers
 nested-again set key p i found m = nested-whole set key p (allowed refl (questioned (find set key) (nestedStaticAt set key p) found m))
 
 -- the set that it gives is one of the sets
-pub nested-open : {w : List Item} (set : SetId) (key : Text) (p : Pointer) {m : ℕ} {own : Price} {s : List ℕ} {r : SetId} {t : List ℕ} → suc set ≤ length (setsOf s) → Ready s → Lowered w m own (getOrCreateNestedStatic set key p) s r t → suc r ≤ length (setsOf t)
+pub nested-open : {w : List Item} (set : SetId) (key : Text) (p : Pointer) {m : ℕ} {own : Price} {s : List ℕ} {r : SetId} {t : List ℕ} → suc set ≤ length (setsOf s) → Lowerable s → Lowered w m own (getOrCreateNestedStatic set key p) s r t → suc r ≤ length (setsOf t)
 unfolding stateOf
 nested-open set key p {s = s} {r = r} {t = t} h ready l =
     let a : r ≡ getOrCreateNestedStatic set key p (stateOf s) .0 = ap (λ x. x .0) (l .same) in
@@ -123,15 +123,10 @@ nested-open set key p {s = s} {r = r} {t = t} h ready l =
     omega (arith, nested-given set key p (stateOf s) h (ready .standing))
 
 -- ---- the set that is nested at a key
-pub nested-found : (set : SetId) (key : Text) (i : ℕ) {s : List ℕ} (r : Option SetId) → (InOrder (entriesOf s) (orderOf s) → some i ≡ find set key (stateOf s)) → r ≡ nestedIn (entryAt i (stateOf s)) → Ready s → r ≡ nestedAt (find set key (stateOf s)) (stateOf s)
+pub nested-found : (set : SetId) (key : Text) (i : ℕ) {s : List ℕ} (r : Option SetId) → (InOrder (entriesOf s) (orderOf s) → some i ≡ find set key (stateOf s)) → r ≡ nestedIn (entryAt i (stateOf s)) → Lowerable s → r ≡ nestedAt (find set key (stateOf s)) (stateOf s)
 unfolding nestedAt
 nested-found set key i r found e ready = rw (← found (ready .order)) e
 
-pub nested-missed : (set : SetId) (key : Text) {s : List ℕ} → (InOrder (entriesOf s) (orderOf s) → none ≡ find set key (stateOf s)) → Ready s → none ≡ nestedAt (find set key (stateOf s)) (stateOf s)
+pub nested-missed : (set : SetId) (key : Text) {s : List ℕ} → (InOrder (entriesOf s) (orderOf s) → none ≡ find set key (stateOf s)) → Lowerable s → none ≡ nestedAt (find set key (stateOf s)) (stateOf s)
 unfolding nestedAt
 nested-missed set key found ready = rw (← found (ready .order)) refl
-
--- it is one of the sets
-pub nested-is-open : (set : SetId) (key : Text) (t : SetId) {s : List ℕ} → Ready s → some t ≡ nestedAt (find set key (stateOf s)) (stateOf s) → suc t ≤ length (setsOf s)
-unfolding stateOf
-nested-is-open set key t {s} ready e = nested-below set key (stateOf s) t (ready .standing) (sym e)

@@ -8,13 +8,13 @@ use lib.ListN.{length}
 use Rattle.spec.specs.Sheet.{Node}
 use Rattle.spec.specs.Steps.{_>>=_, give, asks}
 use Rattle.spec.specs.State.{State, Low}
-use Rattle.spec.proofs.Standing.{Standing}
+use Rattle.spec.proofs.sets.Standing.{Standing}
 use Rattle.layout.specs.Exprs.{Item}
 use Rattle.layout.specs.States.{setsOf, entriesOf, orderOf, stateOf}
 use Rattle.layout.proofs.Frames.{wrote-none, wrote-then}
 use Rattle.layout.proofs.WriteLaws.{still-then}
 use Rattle.store.specs.Work.{lowering}
-use Rattle.merging.specs.Ranks.{InOrder}
+use Rattle.open_sets.specs.Ranks.{InOrder}
 use Rattle.merge.specs.Room.{Resource, perNode, Price, nothing, price, _⊕_, covers}
 use Rattle.merge.specs.Lowers.{Lowers}
 use Rattle.merge.specs.Merges.{Merges}

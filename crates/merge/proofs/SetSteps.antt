@@ -13,15 +13,15 @@ use Rattle.spec.specs.Module.{Pointer, BindingValue, NameKind}
 use Rattle.spec.specs.Steps.{_>>=_, asks}
 use Rattle.spec.specs.State.{SetId, MergingEntry, source, dynamic, State, Low, allocName, addDuplicate, newSet, setEntries, addEntry, setEntry}
 use Rattle.spec.specs.Merge.{entryAt, withValue, withNested}
-use Rattle.spec.proofs.Standing.{standing-set, standing-source, standing-dynamic}
-use Rattle.layout.specs.Layout.{nameLimit, diagnosticLimit, setLimit, entryLimit}
+use Rattle.spec.proofs.sets.Standing.{standing-set, standing-source, standing-dynamic}
+use Rattle.layout.specs.Layout.{nameLimit, diagnosticLimit, setLimit, entryLimit, nodeLimit}
 use Rattle.layout.specs.Exprs.{Item}
 use Rattle.layout.specs.States.{setsOf, entriesOf, orderOf, stateOf, waitingOf, usedOf}
 use Rattle.store.specs.Work.{Work, Working, workOf, withState, Did, putName, nameWith, putDuplicate}
-use Rattle.merging.specs.Ranks.{InOrder}
-use Rattle.merging.specs.Entries.{openSet, change}
-use Rattle.merging.specs.Run.{putEntry, Entered}
-use Rattle.merging.proofs.RankChanges.{in-order-withValue, in-order-withNested}
+use Rattle.open_sets.specs.Ranks.{InOrder}
+use Rattle.open_sets.specs.Entries.{openSet, change}
+use Rattle.open_sets.specs.Run.{putEntry, Entered}
+use Rattle.open_sets.proofs.RankChanges.{in-order-withValue, in-order-withNested}
 use Rattle.merge.specs.Room.{Resource, exprs, items, names, diagnostics, sets, entries, level, perNode, Price, nothing, price, oneName, oneDuplicate, oneSet, oneEntry}
 use Rattle.merge.specs.Lowers.{Lowered, Lowers}
 use Rattle.merge.specs.Merges.{Merges}
@@ -29,7 +29,7 @@ use Rattle.merge.proofs.MergeSteps.{merged-whole}
 
 -- A step of the store that leaves what waits, what is in use and the run: where there is room it does what p says.
 by-did : {A : Type 0} {own : Price} (q : Working A) (p : Low A) {s t : List ℕ} {r : A}
-    → (((k : Resource) → level k (workOf s) + own k ≤ perNode k * 4096) → _≡_ {A = A × Work} (q (workOf s)) (p (stateOf s) .0, withState (workOf s) (p (stateOf s) .1)))
+    → (((k : Resource) → level k (workOf s) + own k ≤ perNode k * nodeLimit) → _≡_ {A = A × Work} (q (workOf s)) (p (stateOf s) .0, withState (workOf s) (p (stateOf s) .1)))
     → (InOrder (entriesOf s) (orderOf s) → InOrder (p (stateOf s) .1 .entries) (orderOf s)) → ((k : Resource) → level k (withState (workOf s) (p (stateOf s) .1)) ≤ level k (workOf s) + own k) → Did q s r t → Merges own p s r t
 unfolding workOf withState stateOf
 by-did {A = A} q p {s} {t} {r} goes ordered few d = record {

@@ -1,21 +1,20 @@
 -- How steps of lowering follow one another, with their room. Assumes nothing.
 use mathlib.Core.Path.{_≡_, refl, sym, ap, _∙_}
-use mathlib.Core.Bool.{Bool, true, false, _&&_}
+use mathlib.Core.Bool.{Bool, true, false, _&&_, and-eq-true-iff}
 use mathlib.Core.List.{List, [], _∷_, _++_}
 use Prim.Native.Nat.{ℕ, suc, _+_, _*_, _≤_, _<_}
 use native.Mathlib.Omega.{arith}
 use lib.ListN.{length}
 use lib.Dec.{leb}
 use borrow.Author.Tests.{leb-true}
-use Rattle.spec.proofs.Subtrees.{and-true}
 use Rattle.spec.specs.Sheet.{Node}
 use Rattle.spec.specs.Steps.{_>>=_, give, asks, when}
 use Rattle.spec.specs.State.{State, Low}
-use Rattle.spec.proofs.Sizes.{Weighs}
+use Rattle.spec.proofs.tree.Sizes.{Weighs}
 use Rattle.layout.specs.Changes.{Still}
 use Rattle.layout.specs.Exprs.{Item}
 use Rattle.words.specs.Words.{word}
-use Rattle.layout.specs.Layout.{nodeCount, nodesAt, nodeLimit, kidsAt}
+use Rattle.layout.specs.Layout.{nodeLimit, nodeRow, nodeCount, nodesAt, kidsAt}
 use Rattle.layout.specs.Rows.{cap, marked}
 use Rattle.layout.specs.Nodes.{kidIn, firstKid, nodeIn, nodesOf}
 use Rattle.layout.specs.States.{setsOf, stateOf, waitingOf}
@@ -24,23 +23,23 @@ use Rattle.layout.proofs.RowLaws.{rows-same, between-same}
 use Rattle.layout.proofs.WriteLaws.{still-then}
 use Rattle.store.specs.Work.{workOf, lowering}
 use Rattle.merge.specs.Room.{Resource, exprs, items, names, diagnostics, sets, entries, level, perNode, Price, nothing, price, _⊕_, covers}
-use Rattle.merge.specs.Lowers.{Ready, Setting, Lowered, Lowers, Lowering, Collecting}
+use Rattle.merge.specs.Lowers.{Lowerable, Setting, Lowered, Lowers, Lowering, Collecting}
 
 -- ---- the nodes, where they are still
 first-still : (s t : List ℕ) (i : ℕ) → Still s t → firstKid t i ≡ firstKid s i
 unfolding firstKid
-first-still s t i e = rw (word-still s t (nodesAt + 24 * i) e (omega arith))
+first-still s t i e = rw (word-still s t (nodesAt + nodeRow * i) e (omega arith))
 
 node-still : (s t : List ℕ) (i : ℕ) → Still s t → nodeIn t i ≡ nodeIn s i
 unfolding nodeIn kidIn
 node-still s t i e =
     rw (
-      word-still s t (nodesAt + 24 * i + 4) e (omega arith),
-      word-still s t (nodesAt + 24 * i + 8) e (omega arith),
-      word-still s t (nodesAt + 24 * i + 12) e (omega arith),
-      word-still s t (nodesAt + 24 * i + 16) e (omega arith),
-      word-still s t (nodesAt + 24 * i + 20) e (omega arith),
-      text-still s t (word s (nodesAt + 24 * i + 20)) e,
+      word-still s t (nodesAt + nodeRow * i + 4) e (omega arith),
+      word-still s t (nodesAt + nodeRow * i + 8) e (omega arith),
+      word-still s t (nodesAt + nodeRow * i + 12) e (omega arith),
+      word-still s t (nodesAt + nodeRow * i + 16) e (omega arith),
+      word-still s t (nodesAt + nodeRow * i + 20) e (omega arith),
+      text-still s t (word s (nodesAt + nodeRow * i + 20)) e,
       first-still s t i e,
       first-still s t (i + 1) e,
       between-same (λ j. marked (word t (kidsAt + 4 * j))) (λ j. marked (word s (kidsAt + 4 * j))) (firstKid s i) (firstKid s (i + 1)) (λ j a b. rw (word-still s t (kidsAt + 4 * j) e (omega arith))),
@@ -73,11 +72,11 @@ per-more entries m n h = omega arith
 pub covered : (k : Resource) (j : ℕ) (own other : Price) → covers j own other ≡ true → own k ≤ perNode k * j + other k
 unfolding covers perNode
 covered k j own other e =
-    let a = and-true _ _ e in
-    let b = and-true _ _ (a .0) in
-    let c = and-true _ _ (b .0) in
-    let d = and-true _ _ (c .0) in
-    let f = and-true _ _ (d .0) in
+    let a = and-eq-true-iff _ _ .0 e in
+    let b = and-eq-true-iff _ _ .0 (a .0) in
+    let c = and-eq-true-iff _ _ .0 (b .0) in
+    let d = and-eq-true-iff _ _ .0 (c .0) in
+    let f = and-eq-true-iff _ _ .0 (d .0) in
     go k (leb-true _ _ (f .0)) (leb-true _ _ (f .1)) (leb-true _ _ (d .1)) (leb-true _ _ (c .1)) (leb-true _ _ (b .1)) (leb-true _ _ (a .1))
   where
     go : (k : Resource) → own exprs ≤ 4 * j + other exprs → own items ≤ 4 * j + other items → own names ≤ 1 * j + other names → own diagnostics ≤ 8 * j + other diagnostics → own sets ≤ 1 * j + other sets → own entries ≤ 1 * j + other entries → own k ≤ perNode k * j + other k

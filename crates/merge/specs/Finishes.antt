@@ -2,7 +2,7 @@
 use mathlib.Core.Path.{_≡_}
 use mathlib.Core.List.{List, [], _∷_, _++_, map}
 use mathlib.Core.Option.{Option, none, some}
-use Prim.Native.Nat.{ℕ, _+_, _≤_}
+use Prim.Native.Nat.{ℕ, _+_, _≤_, _*_}
 use lib.ListN.{length}
 use Rattle.spec.specs.Basics.{ExprId, NameId}
 use Rattle.spec.specs.Module.{BindingValue, Bindings}
@@ -10,11 +10,12 @@ use Rattle.spec.specs.Steps.{_>>=_, give}
 use Rattle.spec.specs.State.{SetId, MergingEntry, State, Low}
 use Rattle.spec.specs.State as state
 use Rattle.spec.specs.Merge.{finishValue}
+use Rattle.layout.specs.Layout.{exprLimit, nodeLimit}
 use Rattle.layout.specs.Changes.{Wrote, Still}
 use Rattle.layout.specs.Exprs.{Item, child, static, dynamic}
 use Rattle.layout.specs.States.{stateOf, waitingOf, usedOf}
 use Rattle.store.specs.Work.{lowering}
-use Rattle.merge.specs.Lowers.{Ready}
+use Rattle.merge.specs.Lowers.{Lowerable}
 
 -- ---- the bindings of a set, as items
 unfoldable pub staticItem : NameId × BindingValue → Item
@@ -52,13 +53,13 @@ entryLoad w (state.dynamic s k v) = 1
 -- ---- steps
 -- Where a step begins: the items w wait, and there is room for n expressions and n items.
 pub record Begins (w : List Item) (n : ℕ) (s : List ℕ) : Type 0 where
-  pub ready : Ready s
+  pub ready : Lowerable s
   pub waiting-are : waitingOf s ≡ w
-  pub exprs-fit : length (stateOf s .exprs) + n ≤ 16384
-  pub items-fit : usedOf s + length w + n ≤ 16384
+  pub exprs-fit : length (stateOf s .exprs) + n ≤ exprLimit
+  pub items-fit : usedOf s + length w + n ≤ (4 * nodeLimit)
 
 -- all but the expressions is as it was
-pub record Kept (st after : State) : Type 0 where
+pub record ExprsOnly (st after : State) : Type 0 where
   pub names-same : after .names ≡ st .names
   pub diagnostics-same : after .diagnostics ≡ st .diagnostics
   pub lost-same : after .lost ≡ st .lost
@@ -69,8 +70,8 @@ pub record Kept (st after : State) : Type 0 where
 pub record Finished {A : Type 0} (w : List Item) (n : ℕ) (p : Low A) (s : List ℕ) (r : A) (t : List ℕ) : Type 0 where
   pub same : _≡_ {A = A × State} (r, stateOf t) (p (stateOf s))
   pub waits : waitingOf t ≡ w
-  pub ready : Ready t
-  pub kept : Kept (stateOf s) (stateOf t)
+  pub ready : Lowerable t
+  pub kept : ExprsOnly (stateOf s) (stateOf t)
   pub exprs-few : length (stateOf t .exprs) ≤ length (stateOf s .exprs) + n
   pub items-few : usedOf t + length (waitingOf t) ≤ usedOf s + length (waitingOf s) + n
 

@@ -9,23 +9,24 @@ use Rattle.spec.specs.Basics.{NodeId}
 use Rattle.spec.specs.Keys.{kind, flag, text}
 use Rattle.spec.specs.Sheet.{Node, bitsFrom}
 use Rattle.spec.specs.State.{State, Low}
-use Rattle.spec.proofs.Sizes.{Weighs}
-use Rattle.spec.proofs.Standing.{Standing}
+use Rattle.spec.proofs.tree.Sizes.{Weighs}
+use Rattle.spec.proofs.sets.Standing.{Standing}
+use Rattle.layout.specs.Layout.{nodeLimit}
 use Rattle.layout.specs.Changes.{Wrote, Still}
 use Rattle.layout.specs.Exprs.{Item}
 use Rattle.layout.specs.Nodes.{nodesOf}
 use Rattle.layout.specs.States.{setsOf, entriesOf, orderOf, stateOf, waitingOf}
 use Rattle.store.specs.Work.{lowering, workOf, Fine}
-use Rattle.merging.specs.Ranks.{InOrder}
+use Rattle.open_sets.specs.Ranks.{InOrder}
 use Rattle.merge.specs.Room.{Resource, level, perNode, Price}
 
 -- the rows are well formed, the run is in order, and the open sets are a forest
-pub record Ready (s : List ℕ) : Type 0 where
+pub record Lowerable (s : List ℕ) : Type 0 where
   pub fine : Fine s
   pub order : InOrder (entriesOf s) (orderOf s)
   pub standing : Standing (stateOf s)
 
--- "a Float .. no NaN": what the text of each Float of an accepted sheet is
+-- no Float of an accepted sheet is a NaN (docs/RULES.md, "Kinds"): what its text is
 pub record Floats (nodes : List Node) : Type 0 where
   pub held : (n : NodeId) → eqb (kind nodes n) 8 ≡ true → flag nodes n ≡ 1 → bitsFrom 0 (text nodes n) ≤ 9218868437227405312
 
@@ -35,15 +36,15 @@ pub record Setting (nodes : List Node) (w : List Item) (top m : ℕ) (own : Pric
   pub floats : Floats nodes
   pub nodes-are : nodesOf s ≡ nodes
   pub waiting-are : waitingOf s ≡ w
-  pub ready : Ready s
+  pub ready : Lowerable s
   pub opened : top ≤ length (setsOf s)
-  pub room : (k : Resource) → level k (workOf s) + (perNode k * m + own k) ≤ perNode k * 4096
+  pub room : (k : Resource) → level k (workOf s) + (perNode k * m + own k) ≤ perNode k * nodeLimit
 
 -- what it leaves
 pub record Lowered {A : Type 0} (w : List Item) (m : ℕ) (own : Price) (p : Low A) (s : List ℕ) (r : A) (t : List ℕ) : Type 0 where
   pub same : _≡_ {A = A × State} (r, stateOf t) (p (stateOf s))
   pub waits : waitingOf t ≡ w
-  pub ready : Ready t
+  pub ready : Lowerable t
   pub spent : (k : Resource) → level k (workOf t) ≤ level k (workOf s) + (perNode k * m + own k)
   pub grows : length (setsOf s) ≤ length (setsOf t)
 

@@ -8,10 +8,11 @@ use Rattle.spec.specs.Sheet.{Node}
 use Rattle.spec.specs.Module.{Pointer, BindingValue}
 use Rattle.spec.specs.State.{SetId, State, Low}
 use Rattle.spec.specs.Merge.{inheritValue}
+use Rattle.layout.specs.Layout.{nodeLimit}
 use Rattle.layout.specs.Changes.{Wrote, Still}
 use Rattle.layout.specs.States.{entriesOf, orderOf, stateOf, waitingOf}
 use Rattle.store.specs.Work.{lowering, workOf, Fine}
-use Rattle.merging.specs.Ranks.{InOrder}
+use Rattle.open_sets.specs.Ranks.{InOrder}
 use Rattle.merge.specs.Room.{Resource, level, perNode, Price, price}
 use Rattle.merge.specs.Lowers.{Lowering}
 
@@ -27,7 +28,7 @@ pub record Merged {A : Type 0} (own : Price) (p : Low A) (s : List ℕ) (r : A) 
 pub record Merges {A : Type 0} (own : Price) (p : Low A) (s : List ℕ) (r : A) (t : List ℕ) : Type 0 where
   pub wrote : Wrote lowering s t
   pub still : Still s t
-  pub does : Fine s → InOrder (entriesOf s) (orderOf s) → ((k : Resource) → level k (workOf s) + own k ≤ perNode k * 4096) → Merged own p s r t
+  pub does : Fine s → InOrder (entriesOf s) (orderOf s) → ((k : Resource) → level k (workOf s) + own k ≤ perNode k * nodeLimit) → Merged own p s r t
 
 -- ---- prices
 -- a value at a key: a name and an entry, or a diagnostic and what is lost by it

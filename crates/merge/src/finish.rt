@@ -6,31 +6,31 @@
 ghost use lib.ListN.{length};
 ghost use Rattle.spec.specs.Merge.{finishValue, finishWith, finishTo, finishExpr};
 ghost use Rattle.spec.specs.Merge as merge;
-ghost use Rattle.spec.proofs.Loads.{load, loads};
+ghost use Rattle.spec.proofs.sets.Loads.{load, loads};
 ghost use Rattle.module.specs.Ids.{bindingOf};
 ghost use Rattle.layout.specs.Layout.{Long};
 ghost use Rattle.layout.specs.States.{setsOf, entriesOf};
-ghost use Rattle.merging.specs.Entries.{maybeSetOf, maybeValueOf, entryWith};
+ghost use Rattle.open_sets.specs.Entries.{maybeSetOf, maybeValueOf, entryWith};
 ghost use Rattle.merge.specs.Finishes.{bindingItems, finishEntry, only, valueLoad, entryLoad, Finishing, Listing};
-use merging::Entry;
-use merging::MaybeSet;
-use merging::MaybeValue;
-use merging::NextEntry;
-use merging::SetId;
-use merging::entry_of;
-use merging::first_of;
-use merging::set_count;
-use merging::set_pointer;
 use module::BindingValue;
 use module::Expr;
 use module::ExprId;
 use module::Item;
+use open_sets::Entry;
+use open_sets::MaybeSet;
+use open_sets::MaybeValue;
+use open_sets::NextEntry;
+use open_sets::SetId;
+use open_sets::entry_of;
+use open_sets::first_of;
+use open_sets::set_count;
+use open_sets::set_pointer;
 use store::alloc_expr;
 use store::alloc_missing;
 use store::push_item;
 use store::waiting_count;
 
-// "a nested set still wins"
+// docs/RULES.md, "Finishing": "a nested set still wins"
 fn finish_value(store: &mut [u8], bound: u32, nested: MaybeSet, value: MaybeValue) -> BindingValue
     requires { ⌜ Long (now store) ⌝ }
     ensures { λ r. ⌜ Finishing (valueLoad (load (entriesOf (now (store .entry))) bound) (maybeSetOf nested) (maybeValueOf value)) (finishValue (finishTo bound) (maybeSetOf nested) (maybeValueOf value)) (now (store .entry)) (bindingOf r) (now (store .exit)) ⌝ }

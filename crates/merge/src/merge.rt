@@ -9,28 +9,28 @@ ghost use Rattle.module.specs.Ids.{bindingOf, pointerOf};
 ghost use Rattle.layout.specs.Layout.{Long};
 ghost use Rattle.layout.specs.Texts.{textIn};
 ghost use Rattle.layout.specs.States.{stateOf};
-ghost use Rattle.merging.specs.Entries.{maybeSetOf, entryWith};
+ghost use Rattle.open_sets.specs.Entries.{maybeSetOf, entryWith};
 ghost use Rattle.merge.specs.Room.{oneName, oneDuplicate, oneSet, oneEntry};
-ghost use Rattle.merge.specs.Lowers.{Ready, Lowering};
+ghost use Rattle.merge.specs.Lowers.{Lowerable, Lowering};
 ghost use Rattle.merge.specs.Merges.{Merges, keyPrice, valuePrice, nestedPrice};
-use merging::Entry;
-use merging::MaybeEntry;
-use merging::MaybeSet;
-use merging::MaybeValue;
-use merging::SetId;
-use merging::add_entry;
-use merging::entry_at;
-use merging::find;
-use merging::open_set;
-use merging::set_name_kind;
-use merging::set_nested;
-use merging::set_value;
 use module::BindingValue;
 use module::ExprId;
 use module::NameId;
 use module::NameKind;
 use module::Pointer;
 use module::TextId;
+use open_sets::Entry;
+use open_sets::MaybeEntry;
+use open_sets::MaybeSet;
+use open_sets::MaybeValue;
+use open_sets::SetId;
+use open_sets::add_entry;
+use open_sets::entry_at;
+use open_sets::find;
+use open_sets::open_set;
+use open_sets::set_name_kind;
+use open_sets::set_nested;
+use open_sets::set_value;
 use store::add_duplicate;
 use store::alloc_name;
 use store::name_pointer;
@@ -75,7 +75,7 @@ fn nested_in(e: Entry) -> MaybeSet
 // The nested set that a key has.
 pub fn nested_at(store: &[u8], s: SetId, key: TextId) -> MaybeSet
     requires { ⌜ Long (now store) ⌝ }
-    ensures { λ r. ⌜ (Ready (now (store .entry)) → maybeSetOf r ≡ definition.nestedAt (definition.find (s .0) (textIn (now (store .entry)) (key .0)) (stateOf (now (store .entry)))) (stateOf (now (store .entry)))) ⌝ }
+    ensures { λ r. ⌜ (Lowerable (now (store .entry)) → maybeSetOf r ≡ definition.nestedAt (definition.find (s .0) (textIn (now (store .entry)) (key .0)) (stateOf (now (store .entry)))) (stateOf (now (store .entry)))) ⌝ }
 {
     match find(store, s, key) {
         MaybeEntry::Entry(i) => nested_in(entry_at(store, i)),

@@ -1,6 +1,6 @@
-// "Expression, name and scope numbers are three sorts": each a type of its own, as Id<Expr>, Id<Name>
-// and Id<ScopeData>, so that a name's number can't be taken for an expression's. Nodes of the sheet
-// and texts of the store are numbered too.
+// docs/RULES.md, "Numbers": "Expression, name and scope numbers are three sorts": each a type of its own, as Id<Expr>,
+// Id<Name> and Id<ScopeData>, so that a name's number can't be taken for an expression's. Nodes of the sheet and texts
+// of the store are numbered too.
 pub struct NodeId(pub u32);
 
 pub struct ExprId(pub u32);

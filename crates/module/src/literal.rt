@@ -1,4 +1,5 @@
-// "A literal is a float, an integer, a text, a path or a Uri." A text is known by its number.
+// docs/RULES.md, "The module": "A literal is a float, an integer, a text, a path or a Uri." A text is known by its
+// number.
 ghost use mathlib.Core.Path.{_≡_};
 ghost use Prim.Native.Nat.{_≤_};
 ghost use Rattle.module.specs.Literals.{floatBits, natOf, Unsigned, NotNegative};

@@ -1,4 +1,4 @@
-// "The node's pointer is kind, from, to."
+// docs/RULES.md, "Nodes": "The node's pointer is kind, from, to."
 pub struct Pointer {
     pub kind: u32,
     pub from: u32,

@@ -10,8 +10,8 @@ use lib.Dec.{eqb}
 use lib.ListN.{length, getD, set, length-set}
 use lib.Seq.{ext-getD, getD-set-same, getD-set-other}
 use Rattle.spec.specs.Kept.{Kept, tabulate}
-use Rattle.spec.proofs.Sums.{compared}
-use Rattle.spec.proofs.ListLaws.{getD-tabulate, length-tabulate}
+use Rattle.spec.proofs.general.Sums.{compared}
+use Rattle.spec.proofs.general.ListLaws.{getD-tabulate, length-tabulate}
 use Rattle.nameres.specs.Resolution.{setTo}
 
 length-setTo : {A : Type 0} (f : ℕ → A) (n : ℕ) (xs : List A) → length (setTo f n xs) ≡ length xs

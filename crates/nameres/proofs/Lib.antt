@@ -1,8 +1,8 @@
 pub mod SoundNames
-pub mod NumberLaws
+pub mod HeldLaws
 pub mod AnswerLoops
+pub mod UseLaws
 pub mod StepLaws
 pub mod ResolveLaws
-pub mod ChangeLaws
 pub mod LoadLaws
 pub mod ConditionLaws

@@ -13,10 +13,10 @@ use Rattle.spec.specs.Lower.{lowerModule, moduleOf}
 use Rattle.spec.specs.Scopes.{scopesOf}
 use Rattle.spec.specs.Answer.{scopeAt}
 use Rattle.spec.specs.Kept.{Kept, keptOf, loaded}
-use Rattle.spec.proofs.Sums.{all-map}
-use Rattle.spec.proofs.ScopeRange.{KindIn}
-use Rattle.spec.proofs.Sound.{kinds-in, lowered-sound}
-use Rattle.layout.specs.Layout.{exprCount, nameCount, spentPlace, textsPlace, exprLimit, nameLimit}
+use Rattle.spec.proofs.general.Sums.{all-map}
+use Rattle.spec.proofs.sound.ScopeRange.{KindIn}
+use Rattle.spec.proofs.sound.Sound.{kinds-in, lowered-sound}
+use Rattle.layout.specs.Layout.{exprLimit, nameLimit, loadedTextLimit, exprCount, nameCount, spentPlace, textsPlace}
 use Rattle.layout.specs.Rows.{cap}
 use Rattle.layout.specs.Changes.{Range, Outside, Wrote, Still}
 use Rattle.layout.specs.Regions.{keeping}
@@ -108,7 +108,7 @@ module _ (s u v t : List ℕ) (walked : Wrote walking s u) (still : Still s u) (
   same-texts = number-kept (unspent .wrote) 28 refl ∙ number-kept (answered .wrote) 28 refl ∙ number-kept walked 28 refl
 
   -- THEOREM. A module that fits, kept with scopes that fit, makes a sound store.
-  keeps-sound : word s textsPlace ≤ 745472 → sound t ≡ true
+  keeps-sound : word s textsPlace ≤ loadedTextLimit → sound t ≡ true
   keeps-sound texts =
       sound-parts t (module-fits-kept (unspent .wrote) (unspent .still) refl refl refl module-after)
       (scopes-fit-apart (unspent .wrote) refl refl refl (module-after .fewExprs) scopes-after)

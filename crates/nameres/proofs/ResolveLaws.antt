@@ -10,7 +10,7 @@ use Rattle.words.specs.Words.{word}
 use Rattle.spec.specs.Basics.{Text, ExprId}
 use Rattle.spec.specs.Answer.{Answer}
 use Rattle.spec.specs.Kept.{Kept, tabulate, answersAfresh, referencesAfresh, keptAnswer, resolvedAgain, answeredWith, changedTo}
-use Rattle.layout.specs.Layout.{exprCount, nameCount, usesAt, exprLimit, nameLimit}
+use Rattle.layout.specs.Layout.{exprLimit, nameLimit, useRow, exprCount, nameCount, usesAt, scopesAt, firstsAt}
 use Rattle.layout.specs.Rows.{cap}
 use Rattle.layout.specs.Changes.{Outside, Wrote, Still}
 use Rattle.layout.specs.Regions.{resolving}
@@ -43,7 +43,7 @@ module _ (as′ : Kept → List (Option Answer)) (s u t : List ℕ) (a : Answers
 
   both-placed : Unmoved s t
   unfolding relisting
-  both-placed = record { scope = λ e q. same-on 2310228 2441300 (l .wrote) refl (usesAt + 8 * e) (omega arith) (omega arith) ∙ a .placed .scope e q }
+  both-placed = record { scope = λ e q. same-on usesAt scopesAt (l .wrote) refl (usesAt + useRow * e) (omega arith) (omega arith) ∙ a .placed .scope e q }
 
   -- all fits where every answer does once the answers are written
   both-fits : Scoped s → ((e : ExprId) → e < word s exprCount → AnswerFits u e) → keptFits t ≡ true
@@ -56,18 +56,18 @@ module _ (as′ : Kept → List (Option Answer)) (s u t : List ℕ) (a : Answers
       fitting : word t exprCount ≡ word u exprCount → word t nameCount ≡ word u nameCount → word u exprCount ≡ word s exprCount → word u nameCount ≡ word s nameCount → KeptFits t
       fitting exprs names exprs-were names-were =
           let few = scoped .fewExprs in
-          let uses = same-on 2310228 2441300 (l .wrote) refl in
+          let uses = same-on usesAt scopesAt (l .wrote) refl in
           let all : cap (word u nameCount) nameLimit ≡ word t nameCount = cap-le (word u nameCount) nameLimit (scoped .fewNames) ∙ sym names in
           let some-exprs : cap (word u exprCount) exprLimit ≡ word t exprCount = cap-le (word u exprCount) exprLimit (scoped .fewExprs) ∙ sym exprs in
           let listed : Listed (word t nameCount) t = rw (← all) (l .listed) in
           record {
             placed = λ e q.
                 let m : e < word u exprCount = rw exprs at q in
-                rw (uses (usesAt + 8 * e) (omega arith) (omega arith), number-kept (l .wrote) 20 refl) (scoped .fits .placed e m);
+                rw (uses (usesAt + useRow * e) (omega arith) (omega arith), number-kept (l .wrote) 20 refl) (scoped .fits .placed e m);
             answers = λ e q.
                 let m : e < word u exprCount = rw exprs at q in
                 let k : e < word s exprCount = rw exprs-were at m in
-                rw (uses (usesAt + 8 * e + 4) (omega arith) (omega arith), names) (fit e k);
+                rw (uses (usesAt + useRow * e + 4) (omega arith) (omega arith), names) (fit e k);
             listed = record { begins = listed .begins; rises = listed .rises; few = listed .few };
             references = λ j q. rw some-exprs at (l .exprs j (rw all q));
           }
@@ -109,4 +109,4 @@ module _ (s t : List ℕ) (w : Wrote resolving s t) (placed : Unmoved s t) where
   pub resolving-scopes : Scoped s → ScopesFit t
   resolving-scopes h =
       let few = h .fewExprs in
-      scopes-fit-kept s t (number-kept w 0 refl) (number-kept w 4 refl) (number-kept w 20 refl) (same-on 2441300 2506848 w refl) (λ e q. placed .scope e (omega arith)) (h .fits)
+      scopes-fit-kept s t (number-kept w 0 refl) (number-kept w 4 refl) (number-kept w 20 refl) (same-on scopesAt firstsAt w refl) (λ e q. placed .scope e (omega arith)) (h .fits)

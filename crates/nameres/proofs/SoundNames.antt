@@ -1,7 +1,7 @@
 -- Where scopes fit every entered name and every With is one that there is, so that a row can hold its number. Assumes nothing.
 use mathlib.Core.Path.{_≡_, refl}
 use mathlib.Core.Logic.{inr}
-use mathlib.Core.Bool.{Bool, true, false, _&&_, _||_}
+use mathlib.Core.Bool.{Bool, true, false, _&&_, _||_, and-eq-true-iff}
 use mathlib.Core.List.{List, [], _∷_, _++_}
 use Prim.Native.Nat.{ℕ, zero, suc, _+_, _-_, _*_, _≤_, _<_}
 use native.Mathlib.Numerals.{add-one}
@@ -9,27 +9,25 @@ use native.Mathlib.Omega.{arith}
 use lib.Dec.{eqb, leb, ltb}
 use borrow.Author.Tests.{leb-true, ltb-true, ltb-false}
 use Rattle.words.specs.Words.{word}
-use Rattle.spec.proofs.Subtrees.{and-true}
 use Rattle.spec.specs.Scopes.{ScopeKind, definitions, withExpr}
-use Rattle.spec.proofs.Sums.{All, all-append, all-map, compared}
+use Rattle.spec.proofs.general.Sums.{All, all-append, all-map, compared}
 use Rattle.spec.specs.Answer.{scopeAt}
-use Rattle.spec.proofs.ScopeRange.{KindIn}
-use Rattle.layout.specs.Layout.{exprCount, nameCount, scopeCount, exprLimit, nameLimit, scopeLimit, scopesAt, enteredAt}
+use Rattle.spec.proofs.sound.ScopeRange.{KindIn}
+use Rattle.layout.specs.Layout.{nameLimit, scopeLimit, scopeRow, exprCount, nameCount, scopeCount, scopesAt, enteredAt}
 use Rattle.layout.specs.Rows.{cap, rowsTo, rowsFrom, raised}
 use Rattle.layout.specs.Keeps.{firstEntered, enteredOf, kindOfScope, scopeIn, scopesIn}
 use Rattle.layout.proofs.RowLaws.{cap-less}
-use Rattle.soundness.specs.Sound.{allTo, ascends, nameFits, scopeFits, scopesFit, sound}
-use Rattle.soundness.proofs.CodedLaws.{sound-module, sound-scopes}
+use Rattle.soundness.specs.Sound.{allTo, ascends, nameFits, scopeFits, scopesFit}
 use Rattle.kept.proofs.ScopeReads.{scope-in, scope-out}
-use Rattle.kept.proofs.TextFrames.{all-at}
-use Rattle.nameres.specs.Resolution.{Nameable, Scoped}
+use Rattle.soundness.proofs.SoundLaws.{all-each}
+use Rattle.nameres.specs.Resolution.{Scoped}
 
 -- rows that say where their lists begin
 rises : (first : ℕ → ℕ) (n i : ℕ) → allTo (λ k. leb (first k) (first (k + 1))) n ≡ true → i ≤ n → first i ≤ first n
 unfolding allTo
 rises first zero i h l = let z : i ≡ 0 = omega arith in rw z (omega arith)
 rises first (suc n) i h l =
-    let both = and-true (allTo (λ k. leb (first k) (first (k + 1))) n) (leb (first n) (first (n + 1))) h in
+    let both = and-eq-true-iff (allTo (λ k. leb (first k) (first (k + 1))) n) (leb (first n) (first (n + 1))) .0 h in
     let last : first n ≤ first (suc n) = rw add-one at (leb-true (first n) (first (n + 1)) (both .1)) in
     compared i (suc n) (λ e. rw e (omega arith)) (λ e. let z = rises first n i (both .0) (omega arith) in omega arith)
 
@@ -37,9 +35,6 @@ all-rows : {A : Type 0} (P : A → Type 0) (f : ℕ → A) (n : ℕ) → ((k : �
 unfolding rowsTo
 all-rows P f zero h = tt
 all-rows P f (suc n) h = all-append P (rowsTo f n) (f n ∷ []) (all-rows P f n (λ k l. h k (omega arith))) (h n (omega arith), tt)
-
-pub sound-scoped : (s : List ℕ) → sound s ≡ true → Scoped s
-sound-scoped s h = let m = sound-module s h in record { fits = sound-scopes s h; fewExprs = m .fewExprs; fewNames = m .fewNames }
 
 pub kind-wider : (n m e d : ℕ) (k : ScopeKind) → n ≤ m → e ≤ d → KindIn n e k → KindIn m d k
 kind-wider n m e d (definitions xs) l h a = all-map _ _ (λ x q. omega arith) xs a
@@ -49,16 +44,16 @@ module _ (s : List ℕ) (h : Scoped s) where
   all-named : (j : ℕ) → j < firstEntered s (word s scopeCount) → word s (enteredAt + 4 * j) < word s nameCount
   unfolding scopesFit nameFits
   all-named j l =
-      let a = and-true (ascends (firstEntered s) (word s scopeCount) nameLimit) (allTo (scopeFits s) (word s scopeCount) && allTo (λ k. nameFits s (word s (enteredAt + 4 * k))) (firstEntered s (word s scopeCount))) (h .fits .scopes) .1 in
-      let b = and-true (allTo (scopeFits s) (word s scopeCount)) (allTo (λ k. nameFits s (word s (enteredAt + 4 * k))) (firstEntered s (word s scopeCount))) a .1 in
-      ltb-true (word s (enteredAt + 4 * j)) (word s nameCount) (all-at (λ k. nameFits s (word s (enteredAt + 4 * k))) (firstEntered s (word s scopeCount)) j b l)
+      let a = and-eq-true-iff (ascends (firstEntered s) (word s scopeCount) nameLimit) (allTo (scopeFits s) (word s scopeCount) && allTo (λ k. nameFits s (word s (enteredAt + 4 * k))) (firstEntered s (word s scopeCount))) .0 (h .fits .scopes) .1 in
+      let b = and-eq-true-iff (allTo (scopeFits s) (word s scopeCount)) (allTo (λ k. nameFits s (word s (enteredAt + 4 * k))) (firstEntered s (word s scopeCount))) .0 a .1 in
+      ltb-true (word s (enteredAt + 4 * j)) (word s nameCount) (all-each (λ k. nameFits s (word s (enteredAt + 4 * k))) (firstEntered s (word s scopeCount)) j b l)
 
   firsts-rise : (i : ℕ) → i ≤ word s scopeCount → firstEntered s i ≤ firstEntered s (word s scopeCount)
   unfolding scopesFit ascends
   firsts-rise i l =
-      let a = and-true (ascends (firstEntered s) (word s scopeCount) nameLimit) (allTo (scopeFits s) (word s scopeCount) && allTo (λ k. nameFits s (word s (enteredAt + 4 * k))) (firstEntered s (word s scopeCount))) (h .fits .scopes) .0 in
-      let b = and-true (eqb (firstEntered s 0) 0) (allTo (λ k. leb (firstEntered s k) (firstEntered s (k + 1))) (word s scopeCount) && leb (firstEntered s (word s scopeCount)) nameLimit) a .1 in
-      let c = and-true (allTo (λ k. leb (firstEntered s k) (firstEntered s (k + 1))) (word s scopeCount)) (leb (firstEntered s (word s scopeCount)) nameLimit) b .0 in
+      let a = and-eq-true-iff (ascends (firstEntered s) (word s scopeCount) nameLimit) (allTo (scopeFits s) (word s scopeCount) && allTo (λ k. nameFits s (word s (enteredAt + 4 * k))) (firstEntered s (word s scopeCount))) .0 (h .fits .scopes) .0 in
+      let b = and-eq-true-iff (eqb (firstEntered s 0) 0) (allTo (λ k. leb (firstEntered s k) (firstEntered s (k + 1))) (word s scopeCount) && leb (firstEntered s (word s scopeCount)) nameLimit) .0 a .1 in
+      let c = and-eq-true-iff (allTo (λ k. leb (firstEntered s k) (firstEntered s (k + 1))) (word s scopeCount)) (leb (firstEntered s (word s scopeCount)) nameLimit) .0 b .0 in
       rises (firstEntered s) (word s scopeCount) i c l
 
   own-below : (i : ℕ) → i < cap (word s scopeCount) scopeLimit → All (λ x. x < word s nameCount) (enteredOf s i)
@@ -72,13 +67,13 @@ module _ (s : List ℕ) (h : Scoped s) where
       all-rows (λ x. x < word s nameCount) (λ k. word s (enteredAt + 4 * (lo + k))) (hi - lo) (λ k q. omega (arith, all-named (lo + k) (omega arith)))
 
   -- a With is one of the expressions
-  with-fits : (i : ℕ) → i < word s scopeCount → word s (scopesAt + 12 * i + 8) ≤ word s exprCount
+  with-fits : (i : ℕ) → i < word s scopeCount → word s (scopesAt + scopeRow * i + 8) ≤ word s exprCount
   unfolding scopesFit scopeFits
   with-fits i l =
-      let a = and-true (ascends (firstEntered s) (word s scopeCount) nameLimit) (allTo (scopeFits s) (word s scopeCount) && allTo (λ k. nameFits s (word s (enteredAt + 4 * k))) (firstEntered s (word s scopeCount))) (h .fits .scopes) .1 in
-      let b = and-true (allTo (scopeFits s) (word s scopeCount)) (allTo (λ k. nameFits s (word s (enteredAt + 4 * k))) (firstEntered s (word s scopeCount))) a .0 in
-      let c = and-true (leb (word s (scopesAt + 12 * i + 4)) i) (leb (word s (scopesAt + 12 * i + 8)) (word s exprCount)) (all-at (scopeFits s) (word s scopeCount) i b l) .1 in
-      leb-true (word s (scopesAt + 12 * i + 8)) (word s exprCount) c
+      let a = and-eq-true-iff (ascends (firstEntered s) (word s scopeCount) nameLimit) (allTo (scopeFits s) (word s scopeCount) && allTo (λ k. nameFits s (word s (enteredAt + 4 * k))) (firstEntered s (word s scopeCount))) .0 (h .fits .scopes) .1 in
+      let b = and-eq-true-iff (allTo (scopeFits s) (word s scopeCount)) (allTo (λ k. nameFits s (word s (enteredAt + 4 * k))) (firstEntered s (word s scopeCount))) .0 a .0 in
+      let c = and-eq-true-iff (leb (word s (scopesAt + scopeRow * i + 4)) i) (leb (word s (scopesAt + scopeRow * i + 8)) (word s exprCount)) .0 (all-each (scopeFits s) (word s scopeCount) i b l) .1 in
+      leb-true (word s (scopesAt + scopeRow * i + 8)) (word s exprCount) c
 
   kind-of : (w : ℕ) (xs : List ℕ) → w ≤ word s exprCount → All (λ x. x < word s nameCount) xs → KindIn (word s nameCount) (word s exprCount) (kindOfScope (raised w) xs)
   unfolding kindOfScope raised
@@ -94,8 +89,5 @@ module _ (s : List ℕ) (h : Scoped s) where
           let l = ltb-true i (cap (word s scopeCount) scopeLimit) q in
           let m = cap-less (word s scopeCount) scopeLimit (word s scopeCount) (inr (omega arith)) in
           let fits = with-fits i (omega arith) in
-          rw (scope-in s i l) (kind-of (word s (scopesAt + 12 * i + 8)) (enteredOf s i) (omega arith) (own-below i l))
+          rw (scope-in s i l) (kind-of (word s (scopesAt + scopeRow * i + 8)) (enteredOf s i) (omega arith) (own-below i l))
       go false q = rw (scope-out s i (ltb-false i (cap (word s scopeCount) scopeLimit) q)) tt
-
-  pub scoped-named : Nameable (scopesIn s)
-  scoped-named = record { kinds = λ i. kind-wider (word s nameCount) nameLimit (word s exprCount) exprLimit (scopeAt (scopesIn s .scopes) i .kind) (h .fewNames) (h .fewExprs) (kind-at i) }

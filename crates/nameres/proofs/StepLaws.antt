@@ -19,7 +19,7 @@ use Rattle.spec.specs.Scopes.{Scopes, exprAt}
 use Rattle.spec.specs.Answer as spec
 use Rattle.spec.specs.Answer.{textOfName, answerAt, scopeOfExpr, referenceText, answerOf, answer}
 use Rattle.spec.specs.Kept.{Kept, tabulate, answersAfresh, keptAnswer, bears, resolvedAgain}
-use Rattle.layout.specs.Layout.{absent, exprCount, nameCount, usesAt, exprLimit}
+use Rattle.layout.specs.Layout.{absent, exprLimit, useRow, exprCount, nameCount, usesAt, scopesAt, firstsAt}
 use Rattle.layout.specs.Rows.{cap, rowsTo}
 use Rattle.layout.specs.Changes.{Wrote, Still}
 use Rattle.layout.specs.Regions.{answering}
@@ -33,20 +33,19 @@ use Rattle.layout.proofs.WriteLaws.{still-then}
 use Rattle.words.specs.Words.{word}
 use Rattle.module.specs.declared.ids.MaybeText.{MaybeText}
 use Rattle.module.specs.declared.ids.MaybeText.the-variants as maybe-text
-use Rattle.kept.specs.declared.answers.Answer.{Answer}
-use Rattle.kept.specs.declared.answers.Answer.the-variants.{Unresolved}
-use Rattle.kept.specs.Answers.{answerWith, withsAt, answerNumber, insteadOf, answeredNow, keepAnswer, Answered, AnswerFits}
-use Rattle.spec.proofs.Sums.{compared}
+use Rattle.answer.specs.declared.answer.Answer.{Answer}
+use Rattle.answer.specs.declared.answer.Answer.the-variants.{Unresolved}
+use Rattle.answer.specs.Answers.{answerWith}
+use Rattle.answer.specs.Words.{answerWord}
+use Rattle.kept.specs.Answers.{withsAt, insteadOf, answeredNow, keepAnswer, Answered, AnswerFits}
+use Rattle.spec.proofs.general.Sums.{compared}
 use Rattle.soundness.proofs.FrameLaws.{scopes-fit-kept}
-use Rattle.kept.proofs.UseLaws.{unanswered, answered}
+use Rattle.nameres.proofs.UseLaws.{unanswered, answered}
 use Rattle.kept.proofs.SoundChanges.{answered-wrote, answered-placed, answered-other}
 use Rattle.nameres.specs.Resolution.{Nameable, Scoped, withAnswers, setTo, Answers, oneAfresh, oneAgain, firstAfresh, firstAgain, AnswersOne, AnswersFirst, AnswersAll}
-use Rattle.nameres.proofs.NumberLaws.{answer-held, number-fits}
+use Rattle.nameres.proofs.HeldLaws.{answer-held, word-fits}
 use Rattle.nameres.proofs.AnswerLoops.{getD-setTo-past, setTo-all}
-
-scopes-kept : (s : List ℕ) → keptIn s .scopes ≡ scopesIn s
-unfolding keptIn
-scopes-kept s = refl
+use Rattle.kept.proofs.AnswerLaws.{scopes-of}
 
 module-kept : (s : List ℕ) → keptIn s .lowered ≡ moduleIn s
 unfolding keptIn
@@ -67,7 +66,7 @@ scoped-still as′ s t a h =
     let exprs = number-kept (a .wrote) 0 refl in
     let few = h .fewExprs in
     record {
-      fits = scopes-fit-kept s t exprs (names-as (a .wrote)) (number-kept (a .wrote) 20 refl) (same-on 2441300 2506848 (a .wrote) refl) (λ e l. a .placed .scope e (omega arith)) (h .fits);
+      fits = scopes-fit-kept s t exprs (names-as (a .wrote)) (number-kept (a .wrote) 20 refl) (same-on scopesAt firstsAt (a .wrote) refl) (λ e l. a .placed .scope e (omega arith)) (h .fits);
       fewExprs = rw exprs (h .fewExprs);
       fewNames = rw (names-as (a .wrote)) (h .fewNames);
     }
@@ -95,16 +94,16 @@ answers-as as′ bs′ s t a e =
     }
 
 -- one answer whose number fits
-module _ (s t : List ℕ) (e : ExprId) (a : Answer) (put : Answered e a s t) (low : Scoped s → answerNumber a < 24 + word s nameCount) where
+module _ (s t : List ℕ) (e : ExprId) (a : Answer) (put : Answered e a s t) (low : Scoped s → answerWord a < 24 + word s nameCount) where
   names-put : word t nameCount ≡ word s nameCount
   names-put = names-as (answered-wrote e a s t put)
 
-  has-number : Scoped s → answerNumber a ≡ absent → ⊥
-  has-number h q = omega (arith, low h, h .fewNames)
+  has-word : Scoped s → answerWord a ≡ absent → ⊥
+  has-word h q = omega (arith, low h, h .fewNames)
 
   put-fits : Scoped s → e < cap (word s exprCount) exprLimit → AnswerFits t e
   unfolding AnswerFits
-  put-fits h l = rw (put .row l (has-number h), names-put) (low h)
+  put-fits h l = rw (put .row l (has-word h), names-put) (low h)
 
   pub put-fit : Scoped s → e < word s exprCount → AnswerFits t e
   put-fit h l = put-fits h (rw (cap-le (word s exprCount) exprLimit (h .fewExprs)) l)
@@ -113,20 +112,20 @@ module _ (s t : List ℕ) (e : ExprId) (a : Answer) (put : Answered e a s t) (lo
   unfolding AnswerFits
   put-keeps h i f = compared i e (λ q. rw q (here (rw q at f))) (λ q. rw (answered-other e a s t put i q, names-put) f)
     where
-      here : word s (usesAt + 8 * e + 4) < 24 + word s nameCount → word t (usesAt + 8 * e + 4) < 24 + word t nameCount
+      here : word s (usesAt + useRow * e + 4) < 24 + word s nameCount → word t (usesAt + useRow * e + 4) < 24 + word t nameCount
       here g = go (ltb e (cap (word s exprCount) exprLimit)) refl
         where
-          go : (b : Bool) → ltb e (cap (word s exprCount) exprLimit) ≡ b → word t (usesAt + 8 * e + 4) < 24 + word t nameCount
+          go : (b : Bool) → ltb e (cap (word s exprCount) exprLimit) ≡ b → word t (usesAt + useRow * e + 4) < 24 + word t nameCount
           go true q = put-fits h (ltb-true e (cap (word s exprCount) exprLimit) q)
           go false q = rw (put .past (ltb-false e (cap (word s exprCount) exprLimit) q)) g
 
 -- ---- one expression
 -- what is no Reference has no answer
 pub afresh-other : (s t : List ℕ) (e : ExprId) (r : MaybeText) → maybeText s r ≡ referenceText (exprAt (moduleIn s) e) → r ≡ maybe-text.Absent → Answered e Unresolved s t → AnswersOne e s t
-unfolding oneAfresh answer answerOf maybeText keepAnswer answerNumber answeredNow insteadOf withAnswers
+unfolding oneAfresh answer answerOf maybeText keepAnswer answerWord answeredNow insteadOf withAnswers
 afresh-other s t e r h q put =
     let n : referenceText (exprAt (moduleIn s) e) ≡ none = sym h ∙ ap (maybeText s) q in
-    let low : Scoped s → answerNumber Unresolved < 24 + word s nameCount = λ _. omega arith in
+    let low : Scoped s → answerWord Unresolved < 24 + word s nameCount = λ _. omega arith in
     record {
       answers = record {
         wrote = answered-wrote e Unresolved s t put;
@@ -148,14 +147,14 @@ module _ (s t : List ℕ) (e k : ℕ) (r : MaybeText) (a : Answer)
 
   worked-out : answer (keptIn s .lowered) (keptIn s .scopes) e ≡ some (answerWith a (withsAt (scopesIn s) e))
   unfolding answer answerOf
-  worked-out = rw (module-kept s, scopes-kept s, has-text, says)
+  worked-out = rw (module-kept s, scopes-of s, has-text, says)
 
   now-kept : answeredNow (keptIn s) e a ≡ some (answerWith a (withsAt (scopesIn s) e))
   unfolding answeredNow keptIn
   now-kept = answered s e (textIn s k) (answerWith a (withsAt (scopesIn s) e)) has-text
 
-  its-number : Scoped s → answerNumber a < 24 + word s nameCount
-  its-number scoped = number-fits (textOfName (moduleIn s)) s (textIn s k) (scopeOfExpr (scopesIn s) e) a (withsAt (scopesIn s) e) scoped says
+  its-word : Scoped s → answerWord a < 24 + word s nameCount
+  its-word scoped = word-fits (textOfName (moduleIn s)) s (textIn s k) (scopeOfExpr (scopesIn s) e) a (withsAt (scopesIn s) e) scoped says
 
   -- a Reference has the answer that is worked out
   pub afresh-reference : AnswersOne e s t
@@ -166,11 +165,11 @@ module _ (s t : List ℕ) (e k : ℕ) (r : MaybeText) (a : Answer)
           wrote = answered-wrote e a s t put;
           still = put .still;
           placed = record { scope = λ i l. answered-placed e a s t put i };
-          fits = put-keeps s t e a put its-number;
+          fits = put-keeps s t e a put its-word;
           does = λ named.
-              put .does ∙ rw (ne-eqb (answerNumber a) absent (answer-held (textOfName (moduleIn s)) (scopesIn s) (textIn s k) (scopeOfExpr (scopesIn s) e) a (withsAt (scopesIn s) e) named says), now-kept, worked-out);
+              put .does ∙ rw (ne-eqb (answerWord a) absent (answer-held (textOfName (moduleIn s)) (scopesIn s) (textIn s k) (scopeOfExpr (scopesIn s) e) a (withsAt (scopesIn s) e) named says), now-kept, worked-out);
         };
-        fit = put-fit s t e a put its-number;
+        fit = put-fit s t e a put its-word;
       }
 
 -- ---- resolved again or not
@@ -188,7 +187,7 @@ module _ (s : List ℕ) (old new : Text) (e : ExprId) where
 -- ---- all expressions, one after the other
 named-still : (as′ : List (Option spec.Answer)) (s u : List ℕ) → keptIn u ≡ withAnswers as′ (keptIn s) → Nameable (scopesIn s) → Nameable (scopesIn u)
 unfolding withAnswers
-named-still as′ s u e h = rw (sym (scopes-kept u) ∙ ap (λ (k : Kept). k .scopes) e ∙ scopes-kept s) h
+named-still as′ s u e h = rw (sym (scopes-of u) ∙ ap (λ (k : Kept). k .scopes) e ∙ scopes-of s) h
 
 pub afresh-none : (s : List ℕ) → AnswersFirst 0 s s
 unfolding firstAfresh setTo
@@ -246,7 +245,7 @@ answers-many : (s : List ℕ) → length (keptIn s .answers) ≡ length (exprsOf
 unfolding keptIn exprsOf
 answers-many s = length-rows (answerIn s) (cap (word s exprCount) exprLimit) ∙ sym (length-rows (madeIn s) (cap (word s exprCount) exprLimit))
 
-exprs-many : (s : List ℕ) → length (keptIn s .lowered .exprs) ≡ length (exprsOf s)
+pub exprs-many : (s : List ℕ) → length (keptIn s .lowered .exprs) ≡ length (exprsOf s)
 unfolding keptIn moduleIn moduleOf stateOf
 exprs-many s = refl
 

@@ -1,3 +1,2 @@
 pub mod Resolution
-pub mod Changed
 pub mod Loaded

@@ -8,8 +8,8 @@ use Rattle.words.specs.Words.{word}
 use Rattle.spec.specs.Module.{Module}
 use Rattle.spec.specs.Scopes.{scopesOf}
 use Rattle.spec.specs.Kept.{keptOf}
-use Rattle.spec.proofs.ScopeRange.{InRange}
-use Rattle.layout.specs.Layout.{textsPlace}
+use Rattle.spec.proofs.sound.ScopeRange.{InRange}
+use Rattle.layout.specs.Layout.{loadedTextLimit, textsPlace}
 use Rattle.layout.specs.Changes.{Wrote, Still}
 use Rattle.layout.specs.Regions.{keeping}
 use Rattle.layout.specs.States.{moduleIn}
@@ -29,4 +29,4 @@ pub record KeepsAll (s t : List ℕ) : Type 0 where
   pub still : Still s t
   pub does : Keepable (moduleIn s) → keptIn t ≡ keptOf (moduleIn s)
   -- a module that fits makes a sound store, if its texts leave room for those of the changes
-  pub leaves : Keepable (moduleIn s) → ModuleFits s → word s textsPlace ≤ 745472 → sound t ≡ true
+  pub leaves : Keepable (moduleIn s) → ModuleFits s → word s textsPlace ≤ loadedTextLimit → sound t ≡ true

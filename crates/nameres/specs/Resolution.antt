@@ -10,7 +10,7 @@ use Rattle.spec.specs.Basics.{Text, ExprId, NameId, ScopeId}
 use Rattle.spec.specs.Scopes.{Scopes}
 use Rattle.spec.specs.Answer.{Answer, answer, scopeAt}
 use Rattle.spec.specs.Kept.{Kept, answersAfresh, referencesAfresh, keptAnswer, resolvedAgain, changedTo}
-use Rattle.spec.proofs.ScopeRange.{KindIn}
+use Rattle.spec.proofs.sound.ScopeRange.{KindIn}
 use Rattle.layout.specs.Layout.{exprCount, nameCount, exprLimit, nameLimit}
 use Rattle.layout.specs.Changes.{Wrote, Still}
 use Rattle.layout.specs.Regions.{answering, resolving}

@@ -2,12 +2,9 @@
 // for a module and after a change of one text.
 //
 // It knows no byte offset. Every contract is an equation with the definitions of what a store keeps.
-mod changes;
 mod resolution;
 mod whole;
 
-pub use changes::change_name;
-pub use changes::change_reference;
 pub use resolution::compute_name_resolution;
 pub use resolution::resolve_again;
 pub use whole::keep_module;

@@ -11,9 +11,7 @@ ghost use Rattle.layout.specs.Layout.{Long};
 ghost use Rattle.layout.specs.Texts.{textIn};
 ghost use Rattle.layout.specs.States.{moduleIn};
 ghost use Rattle.nameres.specs.Resolution.{Answers, oneAgain, AnswersOne, AnswersAll, Resolved, ResolvedAgain};
-use intake::texts_equal;
-use kept::Answer;
-use kept::reference_text;
+use answer::Answer;
 use kept::set_answer;
 use listing::list_references;
 use module::ExprId;
@@ -21,6 +19,8 @@ use module::MaybeText;
 use module::TextId;
 use resolve::resolve_name;
 use store::expr_count;
+use store::reference_text;
+use texts::texts_equal;
 
 // The answer of one expression. What is no Reference has none, and its row says so.
 fn answer_afresh(store: &mut [u8], e: ExprId)

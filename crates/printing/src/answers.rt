@@ -5,13 +5,12 @@ ghost use Rattle.words.specs.Words.{word};
 use crate::lines::print_line;
 use crate::lines::print_list;
 use kept::scope_count;
+use layout::tables::STORE_BYTES;
 use requests::ask_reference;
 use store::diagnostic_count;
 use store::expr_count;
 use store::name_count;
 use words::get32;
-
-const STORE_BYTES: usize = 3948672;
 
 pub fn print_refusal(number: u32, place: u32) {
     print_line(b"refused=", number);

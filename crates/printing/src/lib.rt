@@ -1,5 +1,5 @@
 // What the programs print of a store, on standard output: the lines that document 01 gives the program refsheet
-// ("Followed examples"), a field a line.
+// (docs/RULES.md, "Followed examples"), a field a line.
 //
 // No contract can say what a program writes, and nothing here returns anything or writes to what is lent. What the
 // lines say comes from `requests::ask_reference`, the function behind the exported call, so that they are what a host

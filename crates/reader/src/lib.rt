@@ -1,9 +1,10 @@
 // A reader that holds a sheet and the place of its next line.
 //
-// Document 01: "then a reader that holds the sheet and its position is added". The sheet is lent to the reader once, so
-// whoever reads on hands over the reader alone, and cannot mix up the places of two sheets. A function over a struct
-// that holds a slice is proved by a walk of its steps, by hand, so these are few and thin: the work is done by
-// `line_after`, which has a slice and a number, and others call `after_first_line`, which has a slice.
+// Document 01 (docs/RULES.md, "Shapes, sizes and forms"): "then a reader that holds the sheet and its position is
+// added". The sheet is lent to the reader once, so whoever reads on hands over the reader alone, and cannot mix up the
+// places of two sheets. A function over a struct that holds a slice is proved by a walk of its steps, by hand, so these
+// are few and thin: the work is done by `line_after`, which has a slice and a number, and others call
+// `after_first_line`, which has a slice.
 ghost use mathlib.Core.Path.{_≡_};
 ghost use Prim.Native.Nat.{_≤_};
 ghost use lib.ListN.{length, take};

@@ -7,9 +7,9 @@ use borrow.Author.Tests.{le-ltb, lt-ltb}
 use Rattle.spec.specs.Basics.{ExprId}
 use Rattle.spec.specs.Calls.{Outcome, refusal, answered, listed, accepted, replyBytes, withList}
 use Rattle.layout.specs.Rows.{setAll}
-use Rattle.kept.specs.declared.answers.Answer.{Answer}
-use Rattle.kept.specs.Answers.{answerWith}
-use Rattle.resolve.specs.Numbers.{numberOf, valueOf, Tells}
+use Rattle.answer.specs.declared.answer.Answer.{Answer}
+use Rattle.answer.specs.Answers.{answerWith}
+use Rattle.answer.specs.Told.{numberOf, valueOf, Tells}
 use Rattle.replies.specs.Replies.{returned, replyWords, replyAfter, Told, ToldList, ToldAnswer}
 
 -- a reply that is long enough has the words of the outcome

@@ -8,9 +8,9 @@ use Rattle.spec.specs.Basics.{ExprId, if_then_else_}
 use Rattle.spec.specs.Sheet.{Judged}
 use Rattle.spec.specs.Calls.{Outcome, refusal, answered, listed, accepted, replyBytes, withList}
 use Rattle.layout.specs.Rows.{setAll}
-use Rattle.kept.specs.declared.answers.Answer.{Answer}
-use Rattle.kept.specs.Answers.{answerWith}
-use Rattle.resolve.specs.Numbers.{numberOf, valueOf}
+use Rattle.answer.specs.declared.answer.Answer.{Answer}
+use Rattle.answer.specs.Answers.{answerWith}
+use Rattle.answer.specs.Told.{numberOf, valueOf}
 
 -- "0 for none"
 unfoldable pub returned : Outcome → ℕ

@@ -6,10 +6,13 @@ ghost use Prim.Native.Nat.{ℕ, _≤_, _<_};
 ghost use lib.ListN.{length};
 ghost use Rattle.spec.specs.Calls.{replyBytes, refusal, listed, accepted, answered};
 ghost use Rattle.replies.specs.Replies.{Told, ToldList, ToldAnswer};
-use kept::Answer;
+use answer::Answer;
+use answer::answer_number;
+use answer::answer_value;
 use layout::put_five;
-use resolve::answer_number;
-use resolve::answer_value;
+
+// Five words: a shorter reply is not written.
+pub const REPLY_BYTES: usize = 20;
 
 // A refusal: its number, which is returned too, and its place.
 pub fn refuse(reply: &mut [u8], number: u32, place: u32) -> u32

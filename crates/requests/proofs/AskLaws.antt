@@ -12,15 +12,17 @@ use Rattle.layout.specs.Rows.{setAll}
 use Rattle.layout.specs.States.{exprsOf, namesOf}
 use Rattle.layout.specs.Keeps.{scopesIn, keptIn}
 use Rattle.soundness.specs.Sound.{conditionOf}
-use Rattle.kept.specs.declared.answers.Answer.{Answer}
-use Rattle.kept.specs.declared.answers.Answer.the-variants.{Withs}
-use Rattle.kept.specs.declared.answers.MaybeAnswer.{MaybeAnswer}
-use Rattle.kept.specs.declared.answers.MaybeAnswer.the-variants.{Kept as Is, Absent}
-use Rattle.kept.specs.Answers.{answerWith, maybeWith, withsAt}
+use Rattle.answer.specs.declared.answer.Answer.{Answer}
+use Rattle.answer.specs.declared.answer.Answer.the-variants.{Withs}
+use Rattle.answer.specs.declared.answer.MaybeAnswer.{MaybeAnswer}
+use Rattle.answer.specs.declared.answer.MaybeAnswer.the-variants.{Kept as Is, Absent}
+use Rattle.answer.specs.Answers.{answerWith, maybeWith}
+use Rattle.kept.specs.Answers.{withsAt}
 use Rattle.resolve.specs.Withs.{Lists}
 use Rattle.replies.specs.Replies.{listOf, bufferAfter, Told, ToldList, ToldAnswer}
 use Rattle.requests.specs.Requests.{outcomeIn, Asked}
-use Rattle.requests.proofs.StateLaws.{ownOutcome, state-passed, exprs-counted, names-counted, told-asked, refused-asked}
+use Rattle.nameres.proofs.StepLaws.{exprs-many}
+use Rattle.requests.proofs.StateLaws.{ownOutcome, state-passed, names-counted, told-asked, refused-asked}
 
 -- ---- the list that belongs to an answer
 pub no-list : (a known : Answer) (es : List ExprId) (b : List ℕ) → a ≡ known → withList (answerWith known es) ≡ [] → Lists (withList (answerWith a es)) b 0 b
@@ -41,13 +43,13 @@ module _ (s b p : List ℕ) (n : ℕ) (fits : conditionOf s ≡ fit) (long : rep
   unfolding answerCall check
   no-expr l r p′ t =
       refused-asked (askReference n (length b) (length p)) s b p r b p′ 24 n
-      (own-reference ∙ rw (le-leb (length (keptIn s .lowered .exprs)) n (omega (arith, l, counted, exprs-counted s)))) t refl
+      (own-reference ∙ rw (le-leb (length (keptIn s .lowered .exprs)) n (omega (arith, l, counted, exprs-many s)))) t refl
 
   module _ (there : n < k) (m : MaybeAnswer) (says : maybeWith m (withsAt (scopesIn s) n) ≡ keptAnswer (keptIn s) n) where
     from-kept : outcomeIn s (askReference n (length b) (length p))
         ≡ giveAnswer (keptIn s .lowered) (keptAnswer (keptIn s)) (keptReferences (keptIn s)) (keptIn s .spent) n (length b) (maybeWith m (withsAt (scopesIn s) n))
     unfolding answerCall check
-    from-kept = own-reference ∙ rw (lt-leb (length (keptIn s .lowered .exprs)) n (omega (arith, there, counted, exprs-counted s)), says)
+    from-kept = own-reference ∙ rw (lt-leb (length (keptIn s .lowered .exprs)) n (omega (arith, there, counted, exprs-many s)), says)
 
     pub no-answer : m ≡ Absent → (r : ℕ) (p′ : List ℕ) → Told (refusal 25 n) p r p′ → Asked (askReference n (length b) (length p)) s b p r b p′
     unfolding giveAnswer maybeWith

@@ -1,6 +1,6 @@
 -- Changing a text in a fit store: what each way through the code comes to. Assumes nothing.
 use mathlib.Core.Path.{_≡_, refl, sym, _∙_}
-use mathlib.Core.Bool.{Bool, true, false, not, _&&_}
+use mathlib.Core.Bool.{Bool, true, false, not, _&&_, and-true, and-false}
 use mathlib.Core.List.{List}
 use mathlib.Core.Option.{some}
 use Prim.Native.Nat.{ℕ, _+_, _≤_, _<_}
@@ -20,32 +20,25 @@ use Rattle.layout.specs.Texts.{textIn, maybeText}
 use Rattle.layout.specs.States.{exprsOf, namesOf, moduleIn}
 use Rattle.layout.specs.Keeps.{keptIn}
 use Rattle.soundness.specs.Sound.{conditionOf}
-use Rattle.nameres.specs.Changed.{changed, Changes, ChangesName, ChangesReference}
-use Rattle.nameres.proofs.ConditionLaws.{fit-sound, changed-sound}
-use Rattle.nameres.proofs.ChangeLaws.{text-read, text-lost}
+use Rattle.requests.specs.Changed.{changed, Changes, ChangesName, ChangesReference}
+use Rattle.requests.proofs.ConditionLaws.{fit-sound, changed-sound}
+use Rattle.requests.proofs.ChangeLaws.{text-read, text-lost}
 use Rattle.module.specs.declared.ids.MaybeText.{MaybeText}
 use Rattle.module.specs.declared.ids.MaybeText.the-variants as maybe-text
 use Rattle.replies.specs.Replies.{Told}
 use Rattle.requests.specs.Requests.{outcomeIn, Leaves, Changed}
-use Rattle.requests.proofs.StateLaws.{ownOutcome, state-passed, exprs-counted, names-counted, equal-leaves, told-changed, refused-changed}
+use Rattle.nameres.proofs.StepLaws.{exprs-many}
+use Rattle.requests.proofs.StateLaws.{ownOutcome, state-passed, names-counted, equal-leaves, told-changed, refused-changed}
 
 -- ---- whether the change room is too little
 abbrev lacking : Text → Text → ℕ → Bool
-lacking old new spent = not (equalb old new) && ltb 8192 (spent + length new)
+lacking old new spent = not (equalb old new) && ltb roomLimit (spent + length new)
 
-and-false : (b : Bool) → (b && false) ≡ false
-and-false true = refl
-and-false false = refl
+pub room-left : (old new : Text) (spent : ℕ) → spent + length new ≤ roomLimit → false ≡ lacking old new spent
+room-left old new spent h = rw (le-ltb roomLimit (spent + length new) h, and-false (not (equalb old new)))
 
-and-true : (b : Bool) → (b && true) ≡ b
-and-true true = refl
-and-true false = refl
-
-pub room-left : (old new : Text) (spent : ℕ) → spent + length new ≤ 8192 → false ≡ lacking old new spent
-room-left old new spent h = rw (le-ltb 8192 (spent + length new) h, and-false (not (equalb old new)))
-
-pub room-gone : (old new : Text) (spent : ℕ) (r : Bool) → 8192 < spent + length new → r ≡ equalb old new → not r ≡ lacking old new spent
-room-gone old new spent r h e = rw (lt-ltb 8192 (spent + length new) h, and-true (not (equalb old new)), e)
+pub room-gone : (old new : Text) (spent : ℕ) (r : Bool) → roomLimit < spent + length new → r ≡ equalb old new → not r ≡ lacking old new spent
+room-gone old new spent r h e = rw (lt-ltb roomLimit (spent + length new) h, and-true (not (equalb old new)), e)
 
 -- ---- the text of a call that names something there is
 abbrev textOutcome : List ℕ → Call → Outcome
@@ -72,7 +65,7 @@ module _ (c : Call) (s p : List ℕ) (own : outcomeIn s c ≡ textOutcome s c) w
 
       -- another text has room
       has-room : equalb (oldText (keptIn s .lowered) c) (newText c) ≡ false → keptIn s .spent + length (newText c) ≤ roomLimit
-      has-room d = ltb-false 8192 (keptIn s .spent + length (newText c)) (let z : false ≡ lacking (oldText (keptIn s .lowered) c) (newText c) (keptIn s .spent) = sym enough ∙ room in sym (rw d at z))
+      has-room d = ltb-false roomLimit (keptIn s .spent + length (newText c)) (let z : false ≡ lacking (oldText (keptIn s .lowered) c) (newText c) (keptIn s .spent) = sym enough ∙ room in sym (rw d at z))
 
       module _ (t : List ℕ) (does : Changes c s t) (fits : conditionOf s ≡ fit) where
         other-leaves : equalb (oldText (keptIn s .lowered) c) (newText c) ≡ false → Leaves c s t
@@ -107,13 +100,13 @@ module _ (s p : List ℕ) (n : ℕ) (text : Text) (fits : conditionOf s ≡ fit)
   unfolding answerCall check
   no-expr l r p′ t =
       refused-changed (changeReference n text (length p)) s p r p′ 24 n
-      (own-reference ∙ rw (le-leb (length (keptIn s .lowered .exprs)) n (omega (arith, l, counted, exprs-counted s)))) t
+      (own-reference ∙ rw (le-leb (length (keptIn s .lowered .exprs)) n (omega (arith, l, counted, exprs-many s)))) t
 
   module _ (there : n < k) (m : MaybeText) (says : maybeText s m ≡ referenceText (exprAt (moduleIn s) n)) where
     from-text : outcomeIn s (changeReference n text (length p))
         ≡ ifReference (keptIn s .lowered) (keptAnswer (keptIn s)) (keptReferences (keptIn s)) (keptIn s .spent) n (referenceText (exprAt (moduleIn s) n)) (textOutcome s (changeReference n text (length p)))
     unfolding answerCall check keptIn
-    from-text = own-reference ∙ rw (lt-leb (length (keptIn s .lowered .exprs)) n (omega (arith, there, counted, exprs-counted s)))
+    from-text = own-reference ∙ rw (lt-leb (length (keptIn s .lowered .exprs)) n (omega (arith, there, counted, exprs-many s)))
 
     pub no-reference : m ≡ maybe-text.Absent → (r : ℕ) (p′ : List ℕ) → Told (refusal 25 n) p r p′ → Changed (changeReference n text (length p)) s p r s p′
     unfolding ifReference
@@ -136,7 +129,7 @@ module _ (s p : List ℕ) (n : ℕ) (text : Text) (fits : conditionOf s ≡ fit)
       unfolding newText
       reference-long l r p′ t = text-long (changeReference n text (length p)) s p reference-text l r p′ t
 
-      module _ (short : length text ≤ 255) (full : Bool) (room : full ≡ (not (equalb (textIn s h) text) && ltb 8192 (keptIn s .spent + length text))) where
+      module _ (short : length text ≤ 255) (full : Bool) (room : full ≡ (not (equalb (textIn s h) text) && ltb roomLimit (keptIn s .spent + length text))) where
         reference-room : full ≡ lacking (oldText (keptIn s .lowered) (changeReference n text (length p))) (newText (changeReference n text (length p))) (keptIn s .spent)
         unfolding newText
         reference-room = rw old-reference room
@@ -172,7 +165,7 @@ module _ (s p : List ℕ) (n : ℕ) (text : Text) (fits : conditionOf s ≡ fit)
     name-long l r p′ t = text-long (changeName n text (length p)) s p name-text l r p′ t
 
     module _ (short : length text ≤ 255) (h : ℕ) (held : textIn s h ≡ nameAt (moduleIn s) n .text)
-        (full : Bool) (room : full ≡ (not (equalb (textIn s h) text) && ltb 8192 (keptIn s .spent + length text))) where
+        (full : Bool) (room : full ≡ (not (equalb (textIn s h) text) && ltb roomLimit (keptIn s .spent + length text))) where
       name-room : full ≡ lacking (oldText (keptIn s .lowered) (changeName n text (length p))) (newText (changeName n text (length p))) (keptIn s .spent)
       unfolding newText oldText keptIn
       name-room = rw (← held) room

@@ -1,6 +1,6 @@
 -- The checks that every call begins with, and what each call was from what its steps did. Assumes nothing.
 use mathlib.Core.Path.{_≡_, refl, sym, ap, _∙_}
-use mathlib.Core.Bool.{Bool, true, false, _||_, _&&_, not}
+use mathlib.Core.Bool.{Bool, true, false, not, or-true, or-false, and-false}
 use mathlib.Core.List.{List}
 use Prim.Native.Nat.{ℕ, _≤_, _<_}
 use native.Mathlib.Omega.{arith}
@@ -11,7 +11,7 @@ use Rattle.spec.specs.Lower.{moduleOf}
 use Rattle.spec.specs.Calls.{Condition, fit, Call, Outcome, refusal, replyBytes, check, replyOf, answerCall, outcome, isAccepted, oldText, newText}
 use Rattle.spec.specs.Kept.{keptAnswer, keptReferences, keptOutcome, keptWith, keptAfter}
 use Rattle.layout.specs.Rows.{setAll}
-use Rattle.layout.specs.States.{exprsOf, namesOf, stateOf, moduleIn}
+use Rattle.layout.specs.States.{namesOf, stateOf, moduleIn}
 use Rattle.layout.specs.Regions.{changing}
 use Rattle.layout.specs.Keeps.{keptIn}
 use Rattle.layout.proofs.Frames.{wrote-none}
@@ -22,14 +22,6 @@ use Rattle.replies.proofs.ReplyLaws.{reply-short}
 use Rattle.requests.specs.Requests.{outcomeIn, Asked, Leaves, Changed}
 
 -- ---- 21, 22 and 23
-or-true : (b : Bool) → (b || true) ≡ true
-or-true true = refl
-or-true false = refl
-
-or-false : (b : Bool) → (b || false) ≡ b
-or-false true = refl
-or-false false = refl
-
 -- the reply is too short, whatever the store is
 pub reply-refused : (s : List ℕ) (c : Call) → replyOf c < replyBytes → outcomeIn s c ≡ refusal 21 0
 unfolding outcomeIn keptOutcome outcome check
@@ -70,11 +62,7 @@ pub state-passed : (s : List ℕ) (c : Call) → conditionOf s ≡ fit → reply
 unfolding outcomeIn keptOutcome outcome check
 state-passed s c e h = rw (e, le-ltb (replyOf c) replyBytes h)
 
--- its rows, as the code counts them
-pub exprs-counted : (s : List ℕ) → length (keptIn s .lowered .exprs) ≡ length (exprsOf s)
-unfolding keptIn moduleIn moduleOf stateOf
-exprs-counted s = refl
-
+-- its names, as the code counts them
 pub names-counted : (s : List ℕ) → length (keptIn s .lowered .names) ≡ length (namesOf s)
 unfolding keptIn moduleIn moduleOf stateOf
 names-counted s = refl
@@ -115,10 +103,6 @@ module _ (c : Call) (s : List ℕ) where
   pub equal-leaves : equalb (oldText (keptIn s .lowered) c) (newText c) ≡ true → Leaves c s s
   unfolding keptAfter keptWith
   equal-leaves h = leaves-same (rw (h, and-false (isAccepted (keptOutcome (conditionOf s) (keptIn s) c))))
-    where
-      and-false : (b : Bool) → (b && false) ≡ false
-      and-false true = refl
-      and-false false = refl
 
 pub told-changed : (c : Call) (s p : List ℕ) (r : ℕ) (t p′ : List ℕ) (o : Outcome) → outcomeIn s c ≡ o → Told o p r p′ → Leaves c s t → Changed c s p r t p′
 told-changed c s p r t p′ o e x l =

@@ -1,4 +1,5 @@
--- What a call that asks or changes makes of the bytes that it finds, whoever wrote them: a store as a load left it, or any other.
+-- What a call that asks or changes makes of the bytes that it finds, whoever wrote them: a store as a load left it, or
+-- any other (docs/RULES.md, "What a refusal leaves", "The condition of a store").
 use mathlib.Core.Path.{_≡_}
 use mathlib.Core.Bool.{false}
 use mathlib.Core.List.{List}

@@ -7,38 +7,41 @@ ghost use lib.ListN.{length};
 ghost use lib.Dec.{ltb};
 ghost use Rattle.words.specs.Equality.{equalb};
 ghost use Rattle.spec.specs.Calls.{fit, replyBytes, changeReference, changeName};
-ghost use Rattle.layout.specs.Layout.{Long};
+ghost use Rattle.layout.specs.Layout.{roomLimit, Long};
 ghost use Rattle.layout.specs.Texts.{textIn};
 ghost use Rattle.layout.specs.Keeps.{keptIn};
 ghost use Rattle.soundness.specs.Sound.{conditionOf};
 ghost use Rattle.requests.specs.Requests.{Changed};
-use crate::state::REPLY_BYTES;
+use crate::put_text::put_name_text;
+use crate::put_text::put_reference_text;
 use crate::state::state_refusal;
-use intake::text_is;
-use kept::reference_text;
 use kept::spent;
+use layout::tables::ROOM_LIMIT;
 use layout::wide;
 use module::ExprId;
 use module::MaybeText;
 use module::NameId;
 use module::TextId;
+use replies::REPLY_BYTES;
 use replies::accept;
 use replies::refuse;
 use store::expr_count;
 use store::name_count;
 use store::name_text;
+use store::reference_text;
+use texts::text_is;
 
 const TEXT_LIMIT: usize = 255;
 
-const ROOM_LIMIT: usize = 8192;
+const ROOM: usize = ROOM_LIMIT as usize;
 
 // Whether what is left of the change room is too little for a text in place of the one that is held. An equal text
 // takes none; it is compared only where the room would not do, since the change compares again.
 fn lacks_room(store: &[u8], held: TextId, text: &[u8]) -> bool
     requires { ⌜ Long (now store) × (length (now text) ≤ 255) ⌝ }
-    ensures { λ r. ⌜ r ≡ (not (equalb (textIn (now (store .entry)) (held .0)) (now (text .entry))) && ltb 8192 (keptIn (now (store .entry)) .spent + length (now (text .entry)))) ⌝ }
+    ensures { λ r. ⌜ r ≡ (not (equalb (textIn (now (store .entry)) (held .0)) (now (text .entry))) && ltb roomLimit (keptIn (now (store .entry)) .spent + length (now (text .entry)))) ⌝ }
 {
-    if wide(spent(store)) + text.len() <= ROOM_LIMIT {
+    if wide(spent(store)) + text.len() <= ROOM {
         return false;
     }
     !text_is(store, held, text)
@@ -61,7 +64,7 @@ fn set_reference(store: &mut [u8], number: u32, text: &[u8], reply: &mut [u8]) -
     if lacks_room(store, held, text) {
         return refuse(reply, 27, 0);
     }
-    nameres::change_reference(store, ExprId(number), text);
+    put_reference_text(store, ExprId(number), text);
     accept(reply)
 }
 
@@ -94,7 +97,7 @@ fn set_name(store: &mut [u8], number: u32, text: &[u8], reply: &mut [u8]) -> u32
     if lacks_room(store, held, text) {
         return refuse(reply, 27, 0);
     }
-    nameres::change_name(store, NameId(number), text);
+    put_name_text(store, NameId(number), text);
     accept(reply)
 }
 

@@ -4,6 +4,7 @@
 // in the order of the definitions (Calls.antt), and a refused call writes its reply alone.
 mod ask;
 mod change;
+mod put_text;
 mod state;
 
 pub use ask::ask_name;

@@ -5,9 +5,6 @@ ghost use Rattle.soundness.specs.Verdict.{verdict, numberOf};
 use soundness::Condition;
 use soundness::condition;
 
-// Five words: a shorter reply is not written.
-pub const REPLY_BYTES: usize = 20;
-
 // Why a store can neither be asked nor changed; 0 where it can.
 pub fn state_refusal(store: &[u8]) -> u32
     ensures { λ r. ⌜ r ≡ numberOf (verdict (conditionOf (now (store .entry)))) ⌝ }

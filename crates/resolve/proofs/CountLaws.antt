@@ -11,7 +11,7 @@ use Rattle.spec.specs.Answer.{scopeAt, chain, ifWith, withsOf}
 use Rattle.module.specs.declared.ids.ScopeId.{ScopeId}
 use Rattle.module.specs.declared.ids.MaybeScope.{MaybeScope}
 use Rattle.module.specs.declared.ids.MaybeScope.the-variants.{Scope as Inside, Absent}
-use Rattle.layout.specs.Layout.{scopeCount, scopeLimit}
+use Rattle.layout.specs.Layout.{scopeLimit, scopeCount}
 use Rattle.layout.specs.Keeps.{scopesIn}
 use Rattle.layout.proofs.RowLaws.{cap-lim}
 use Rattle.kept.specs.Walks.{withOf, root}
@@ -41,7 +41,7 @@ pub none-past : (scopes : List Scope) (a n : ℕ) → n ≡ length scopes → n 
 unfolding withsOf ifWith
 none-past scopes a n e h = sym (ap (λ (ss : List ℕ). length (withsOf scopes ss)) (chain-begun scopes a ∙ chain-here scopes a a) ∙ rw (past-root scopes a n e h, chain-none scopes a))
 
-pub scope-low : (s : List ℕ) (a n : ℕ) → n ≡ length (scopesIn s .scopes) → a < n → a < 4096
+pub scope-low : (s : List ℕ) (a n : ℕ) → n ≡ length (scopesIn s .scopes) → a < n → a < scopeLimit
 scope-low s a n e h = omega (arith, length-scopes s, cap-lim (word s scopeCount) scopeLimit)
 
 -- ---- all of a chain
@@ -53,7 +53,7 @@ pub counting-none : (scopes : List Scope) (a : ℕ) → Counting scopes a a a 0
 counting-none scopes a = record { total = omega arith; low = omega arith }
 
 module _ {scopes : List Scope} {a left i n : ℕ} (c : Counting scopes a left i n) (r : ℕ) (own : r ≡ length (ifWith (scopeAt scopes i .kind))) where
-  pub count-fits : a < 4096 → n + r < 5000
+  pub count-fits : a < scopeLimit → n + r < 5000
   count-fits h = omega (arith, c .low, own-low (scopeAt scopes i .kind))
 
   module _ {next : MaybeScope} (o : Outer scopes i left next) where

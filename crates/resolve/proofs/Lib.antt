@@ -5,6 +5,5 @@ pub mod SearchLaws
 pub mod WithLaws
 pub mod NameLaws
 pub mod CountLaws
-pub mod ListingLaws
-pub mod NumberLaws
+pub mod WithListLaws
 pub mod ReferenceLaws

@@ -10,9 +10,10 @@ use Rattle.spec.specs.Answer as spec
 use Rattle.spec.specs.Answer.{chain, withsOf, someWiths, afterBuiltins, afterDefinitions, answerIn, answerAt, innermost, scopeOfExpr, builtins, indexFrom}
 use Rattle.module.specs.declared.ids.NameId.{NameId}
 use Rattle.module.specs.declared.ids.ScopeId.{ScopeId}
-use Rattle.kept.specs.declared.answers.Answer.{Answer}
-use Rattle.kept.specs.declared.answers.Answer.the-variants.{Unresolved, Definition, Builtin, Withs}
-use Rattle.kept.specs.Answers.{answerWith, withsIn, withsAt}
+use Rattle.answer.specs.declared.answer.Answer.{Answer}
+use Rattle.answer.specs.declared.answer.Answer.the-variants.{Unresolved, Definition, Builtin, Withs}
+use Rattle.answer.specs.Answers.{answerWith}
+use Rattle.kept.specs.Answers.{withsIn, withsAt}
 use Rattle.builtins.specs.declared.lookup.MaybeBuiltin.{MaybeBuiltin}
 use Rattle.builtins.specs.declared.lookup.MaybeBuiltin.the-variants.{Builtin as Number, Absent}
 use Rattle.builtins.specs.Lookup.{builtinOf}

@@ -3,4 +3,3 @@ pub mod Definitions
 pub mod Search
 pub mod Withs
 pub mod Names
-pub mod Numbers

@@ -10,13 +10,13 @@ ghost use Rattle.layout.specs.States.{moduleIn};
 ghost use Rattle.layout.specs.Keeps.{scopesIn};
 ghost use Rattle.kept.specs.Walks.{namesEntered};
 ghost use Rattle.resolve.specs.Definitions.{onlyWith};
-use intake::texts_equal;
 use kept::entered_at;
 use kept::entered_count;
 use module::MaybeName;
 use module::ScopeId;
 use module::TextId;
 use store::name_text;
+use texts::texts_equal;
 
 // The i-th name entered in a scope, where it has the text t.
 fn entered_as(store: &[u8], s: ScopeId, i: u32, t: TextId) -> MaybeName

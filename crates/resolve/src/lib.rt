@@ -4,19 +4,16 @@
 // parents are followed no further than its own number says, so that every walk ends, also where they go round.
 mod chain;
 mod definitions;
-mod listing;
 mod names;
-mod numbers;
 mod references;
 mod search;
+mod with_list;
 mod withs;
 
 pub use definitions::defined_in;
-pub use listing::list_withs;
 pub use names::resolve_name;
-pub use numbers::answer_number;
-pub use numbers::answer_value;
 pub use references::list_kept_references;
 pub use search::Found;
 pub use search::innermost;
+pub use with_list::list_withs;
 pub use withs::has_with;

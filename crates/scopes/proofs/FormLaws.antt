@@ -14,8 +14,8 @@ use Rattle.spec.specs.Steps.{_>>=_, when, eachOf}
 use Rattle.spec.specs.Module.{Expr, missing, withIn, Made, Module}
 use Rattle.spec.specs.Lower.{moduleOf}
 use Rattle.spec.specs.Scopes.{Walk, placeExpr, openScope, withExpr, oneOrNone, Form, function, withBody, bound, through, form, madeAt, exprAt, traverseBindings, traverseLambda, traverseWith, traverseAs, traverseExpr}
-use Rattle.spec.proofs.Ordered.{Ordered}
-use Rattle.spec.proofs.Walk.{as-agree, walk-step, walked-below}
+use Rattle.spec.proofs.sound.Ordered.{Ordered}
+use Rattle.spec.proofs.sound.Walk.{as-agree, walk-step, walked-below}
 use Rattle.module.specs.declared.ids.ExprId as code-id
 use Rattle.module.specs.declared.ids.MaybeExpr as code-maybe
 use Rattle.module.specs.declared.ids.MaybeExpr.the-variants as maybe-expr

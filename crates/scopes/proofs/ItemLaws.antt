@@ -14,7 +14,7 @@ use Rattle.words.specs.Words.{word}
 use Rattle.spec.specs.Basics.{ExprId, NameId, if_then_else_}
 use Rattle.spec.specs.Module.{Module}
 use Rattle.spec.specs.Scopes.{oneOrNone, fieldNames, fieldDefaults, ifInherited, inherited, ifPlain, plainValues, keysAndValues, interpolated, isDefinition, nameAt, defined}
-use Rattle.layout.specs.Layout.{exprCount, exprLimit}
+use Rattle.layout.specs.Layout.{exprLimit, exprCount, exprsAt, exprPointersAt, itemsAt, namesAt}
 use Rattle.layout.specs.Changes.{Wrote, Still}
 use Rattle.layout.specs.Exprs.{Item, child, text, field, static, dynamic, children, parts, fields, statics, dynamics, itemsOf}
 use Rattle.layout.specs.States.{exprsOf}
@@ -37,9 +37,9 @@ items-walked {s} {t} w still e = rw (exprs-kept w still refl refl) (go (ltb e (l
   where
     go : (b : Bool) → ltb e (length (exprsOf s)) ≡ b → (if b then itemsOf t e else []) ≡ (if b then itemsOf s e else [])
     go true p =
-        let h : e < 16384 = omega (arith, ltb-true e (length (exprsOf s)) p, length-exprs s, cap-lim (word s exprCount) exprLimit) in
-        let v = same-on 64 327764 w refl in
-        own-items-same s t e still (λ j a b. v j (omega arith) (omega arith)) (same-on 524372 917588 w refl)
+        let h : e < exprLimit = omega (arith, ltb-true e (length (exprsOf s)) p, length-exprs s, cap-lim (word s exprCount) exprLimit) in
+        let v = same-on exprsAt exprPointersAt w refl in
+        own-items-same s t e still (λ j a b. v j (omega arith) (omega arith)) (same-on itemsAt namesAt w refl)
     go false p = refl
 
 -- ---- lists that are put together from what each item has

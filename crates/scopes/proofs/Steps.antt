@@ -7,7 +7,7 @@ use Rattle.spec.specs.Basics.{ExprId, ScopeId}
 use Rattle.spec.specs.Steps.{_>>=_, give, when, eachOf}
 use Rattle.spec.specs.Module.{Module}
 use Rattle.spec.specs.Scopes.{Scopes, Walk, traverseExpr}
-use Rattle.spec.proofs.Ordered.{Ordered}
+use Rattle.spec.proofs.sound.Ordered.{Ordered}
 use Rattle.layout.specs.Layout.{scopeLimit}
 use Rattle.layout.specs.Changes.{Wrote, Still}
 use Rattle.layout.specs.States.{moduleIn}
@@ -16,7 +16,7 @@ use Rattle.layout.proofs.Frames.{wrote-none, wrote-then}
 use Rattle.layout.proofs.WriteLaws.{still-then}
 use Rattle.kept.specs.Walks.{walking, Neat}
 use Rattle.kept.proofs.KeepFrames.{module-kept}
-use Rattle.scopes.specs.Walking.{Fits, Ready, Walks, below, Follows}
+use Rattle.scopes.specs.Walking.{Fits, WalkStart, Walks, below, Follows}
 use Rattle.scopes.proofs.Growth.{Grows, fits-before, grows-each, below-grows, Lies}
 
 pub module-walked : {s t : List ℕ} → Wrote walking s t → Still s t → moduleIn t ≡ moduleIn s
@@ -26,7 +26,7 @@ module-walked w still = module-kept w still refl refl
 module _ {A B : Type 0} {scope inner : ScopeId} (p : Module → Walk A) (q : Module → A → Walk B) {s u t : List ℕ} {a : A} {b : B} where
   next-does : (known : (w : Scopes) → scope < scopeLimit → Fits (p (moduleIn s) w .1) → a ≡ p (moduleIn s) w .0 → inner < scopeLimit)
       → ((m : Module) (a : A) → Grows (q m a)) → Walks scope p s a u → Walks inner (λ m. q m a) u b t
-      → Ready scope s → Fits ((p (moduleIn s) >>= q (moduleIn s)) (scopesIn s) .1) → ((b, scopesIn t) ≡ (p (moduleIn s) >>= q (moduleIn s)) (scopesIn s)) × Neat t
+      → WalkStart scope s → Fits ((p (moduleIn s) >>= q (moduleIn s)) (scopesIn s) .1) → ((b, scopesIn t) ≡ (p (moduleIn s) >>= q (moduleIn s)) (scopesIn s)) × Neat t
   unfolding _>>=_
   next-does known g x y ready fits =
       let m = moduleIn s in
@@ -35,7 +35,7 @@ module _ {A B : Type 0} {scope inner : ScopeId} (p : Module → Walk A) (q : Mod
       let f = x .does ready before in
       let same = module-walked (x .wrote) (x .still) in
       let e : q m (p m w .0) (p m w .1) ≡ q (moduleIn u) a (scopesIn u) = ap (λ (z : A × Scopes). q m (z .0) (z .1)) (sym (f .0)) ∙ ap (λ (k : Module). q k a (scopesIn u)) (sym same) in
-      let ready′ : Ready inner u = record {
+      let ready′ : WalkStart inner u = record {
         known = known w (ready .known) before (ap (λ (z : A × Scopes). z .0) (f .0));
         ordered = subst (λ (k : Module). Ordered (k .exprs)) (sym same) (ready .ordered);
         neat = f .1;

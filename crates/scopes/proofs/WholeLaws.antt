@@ -13,11 +13,11 @@ use Rattle.spec.specs.Module.{Module}
 use Rattle.spec.specs.Lower.{lowerModule, moduleOf}
 use Rattle.spec.specs.Kept.{keptOf, loaded}
 use Rattle.spec.specs.Scopes.{ScopeKind, definitions, withExpr, Scope, Scopes, traverseExpr, scopesOf}
-use Rattle.spec.proofs.Ordered.{Ordered, lowered-ordered}
-use Rattle.spec.proofs.ScopeRange.{InRange}
-use Rattle.spec.proofs.Sound.{lowered-sound}
-use Rattle.spec.proofs.SheetRoom.{sheet-room}
-use Rattle.spec.proofs.NameRoom.{enteredIn, namesEntered, entered-room}
+use Rattle.spec.proofs.sound.Ordered.{Ordered, lowered-ordered}
+use Rattle.spec.proofs.sound.ScopeRange.{InRange}
+use Rattle.spec.proofs.sound.Sound.{lowered-sound}
+use Rattle.spec.proofs.room.SheetRoom.{sheet-room}
+use Rattle.spec.proofs.room.NameRoom.{enteredIn, namesEntered, entered-room}
 use Rattle.layout.specs.Layout.{exprCount, nameCount, spentPlace, exprLimit, nameLimit}
 use Rattle.layout.specs.Rows.{cap}
 use Rattle.layout.specs.Nodes.{nodesOf}
@@ -33,7 +33,7 @@ use Rattle.kept.specs.Walks as kept
 use Rattle.kept.specs.Walks.{enteredBy, walking, root, tryRoot, Neat, Walked, Emptied}
 use Rattle.kept.proofs.KeepFrames.{references-kept}
 use Rattle.kept.proofs.ScopesFitLaws.{neat-fits}
-use Rattle.scopes.specs.Walking.{Fits, Ready, Walks}
+use Rattle.scopes.specs.Walking.{Fits, WalkStart, Walks}
 use Rattle.scopes.specs.Whole.{Walkable, ScopesAll}
 use Rattle.scopes.proofs.Steps.{module-walked}
 
@@ -91,7 +91,7 @@ module _ {s a b t : List ℕ} {e : ExprId} (x : Emptied s a) (y : Walked tryRoot
   whole-does : Walkable (moduleIn s) → (scopesIn t ≡ scopesOf (moduleIn s)) × Neat t
   unfolding scopesOf atFirst
   whole-does can =
-      let ready : Ready 0 b = record {
+      let ready : WalkStart 0 b = record {
         known = omega arith;
         ordered = subst (λ (m : Module). Ordered (m .exprs)) (sym before) (can .ordered);
         neat = root-opened x y .1;

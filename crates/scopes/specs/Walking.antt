@@ -9,7 +9,7 @@ use Rattle.spec.specs.Basics.{ExprId, ScopeId}
 use Rattle.spec.specs.Steps.{give, when, eachOf}
 use Rattle.spec.specs.Module.{Module}
 use Rattle.spec.specs.Scopes.{Scopes, Walk, traverseExpr}
-use Rattle.spec.proofs.Ordered.{Ordered}
+use Rattle.spec.proofs.sound.Ordered.{Ordered}
 use Rattle.layout.specs.Layout.{nameLimit, scopeLimit}
 use Rattle.layout.specs.Changes.{Wrote, Still}
 use Rattle.layout.specs.States.{moduleIn}
@@ -22,7 +22,7 @@ pub record Fits (w : Scopes) : Type 0 where
   pub few-names : enteredBy (w .scopes) ≤ nameLimit
 
 -- What a walk in the scope starts from: a scope that can be there, and a module whose children are numbered below their owners.
-pub record Ready (scope : ScopeId) (s : List ℕ) : Type 0 where
+pub record WalkStart (scope : ScopeId) (s : List ℕ) : Type 0 where
   pub known : scope < scopeLimit
   pub ordered : Ordered (moduleIn s .exprs)
   pub neat : Neat s
@@ -31,7 +31,7 @@ pub record Ready (scope : ScopeId) (s : List ℕ) : Type 0 where
 pub record Walks {A : Type 0} (scope : ScopeId) (p : Module → Walk A) (s : List ℕ) (r : A) (t : List ℕ) : Type 0 where
   pub wrote : Wrote walking s t
   pub still : Still s t
-  pub does : Ready scope s → Fits (p (moduleIn s) (scopesIn s) .1) → ((r, scopesIn t) ≡ p (moduleIn s) (scopesIn s)) × Neat t
+  pub does : WalkStart scope s → Fits (p (moduleIn s) (scopesIn s) .1) → ((r, scopesIn t) ≡ p (moduleIn s) (scopesIn s)) × Neat t
 
 -- a child of the expression e: one with a lower number is walked
 unfoldable pub below : Module → ExprId → ScopeId → ExprId → Walk (Unit {0})

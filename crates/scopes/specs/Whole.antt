@@ -6,8 +6,8 @@ use lib.ListN.{length}
 use Rattle.words.specs.Words.{word}
 use Rattle.spec.specs.Module.{Module}
 use Rattle.spec.specs.Scopes.{scopesOf}
-use Rattle.spec.proofs.Ordered.{Ordered}
-use Rattle.spec.proofs.ScopeRange.{InRange}
+use Rattle.spec.proofs.sound.Ordered.{Ordered}
+use Rattle.spec.proofs.sound.ScopeRange.{InRange}
 use Rattle.layout.specs.Layout.{exprCount, nameCount, exprLimit, nameLimit}
 use Rattle.layout.specs.Changes.{Wrote, Still}
 use Rattle.layout.specs.States.{moduleIn}

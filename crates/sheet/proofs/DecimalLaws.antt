@@ -28,18 +28,6 @@ unfolding isDigit
 digit-is c h k = rw (le-leb 48 c, le-leb c 57)
 
 -- ---- the capped value is that of the whole number, capped
-value-grows : (d : Text) (v : ℕ) → v ≤ valueFrom v d
-unfolding valueFrom
-value-grows [] v = omega arith
-value-grows (c ∷ d) v = omega (arith, value-grows d (10 * v + (c - 48)))
-
-value-capped : (d : Text) (v : ℕ) → capped (valueFrom (capped v) d) ≡ capped (valueFrom v d)
-unfolding valueFrom
-value-capped [] v = omega arith
-value-capped (c ∷ d) v =
-    let e : capped (10 * capped v + (c - 48)) ≡ capped (10 * v + (c - 48)) = omega arith in
-    sym (value-capped d (10 * capped v + (c - 48))) ∙ rw e (value-capped d (10 * v + (c - 48)))
-
 pub capped-is : (d : Text) (v : ℕ) → cappedFrom (capped v) d ≡ (if allDigits d then some (capped (valueFrom v d)) else none)
 unfolding cappedFrom allDigits valueFrom
 capped-is [] v = refl

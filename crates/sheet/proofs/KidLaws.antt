@@ -3,6 +3,7 @@ use mathlib.Core.Path.{_≡_, refl, sym, ap, _∙_}
 use mathlib.Core.Bool.{Bool, true, false, _&&_, and-true, and-false, and-assoc}
 use mathlib.Core.List.{List, [], _∷_, _++_, map, append-nil, append-assoc}
 use mathlib.Core.Option.{Option, none, some, Option·map}
+use mathlib.Mathlib.Data.Bool.Basic.{and-elim-right}
 use Prim.Native.Nat.{ℕ, _+_, _-_, _≤_, _<_, min}
 use native.Mathlib.Omega.{arith}
 use native.Mathlib.Decide.{decLt}
@@ -351,8 +352,4 @@ module _ (s : List ℕ) (at end nodes : ℕ) (l : nodes ≤ 4294967295) (ks : Li
 
   pub walk-number : (x next : ℕ) → r ≡ step.Number x next → Before s next end nodes (some x) ks
   unfolding allBelow
-  walk-number x next q = ahead (some x) next (λ js h. right (ltb x nodes) (allBelow nodes js) h) (rw q at walked)
-    where
-      right : (t u : Bool) → (t && u) ≡ true → u ≡ true
-      right true u h = h
-      right false u h = cc
+  walk-number x next q = ahead (some x) next (λ js h. and-elim-right (ltb x nodes) (allBelow nodes js) h) (rw q at walked)

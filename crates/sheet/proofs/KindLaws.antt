@@ -1,7 +1,7 @@
 -- The rules of the kinds by one match each: a test that is computed over the whole table, and a law that turns it into the rule at a number.
 -- Assumes nothing.
 use mathlib.Core.Path.{_≡_, refl, sym, ap, subst, _∙_}
-use mathlib.Core.Bool.{Bool, true, false, _&&_, _||_}
+use mathlib.Core.Bool.{Bool, true, _&&_, _||_}
 use mathlib.Core.Logic.{_⊎_, ⊎-elim}
 use mathlib.Core.List.{List, [], _∷_}
 use mathlib.Core.Option.{none}
@@ -12,28 +12,21 @@ use native.Mathlib.Decide.{decLt}
 use lib.Dec.{T, eqb, eqb→eq}
 use lib.ListN.{length, getD, List·getD-eq-default}
 use borrow.Author.Tests.{ne-eqb}
+use mir.Facts.{and-yes}
 use Rattle.spec.specs.Basics.{if_then_else_}
 use Rattle.spec.specs.Kinds.{Kind, TextRule, noText, anyText, digits, float, named, kinds, kindOf, places}
 
 -- ---- a test at each entry of a list of kinds and its place, counted from i
-both-left : (a b : Bool) → T (a && b) → T a
-both-left true b t = tt
-both-left false b t = t
-
-both-right : (a b : Bool) → T (a && b) → T b
-both-right true b t = t
-both-right false b t = absurd t
-
 abbrev every : (ℕ → Kind → Bool) → ℕ → List Kind → Bool
 every f i [] = true
 every f i (x ∷ xs) = f i x && every f (suc i) xs
 
 from : (f : ℕ → Kind → Bool) (d : Kind) (xs : List Kind) (i : ℕ) → T (every f i xs) → (k : ℕ) → k < length xs → T (f (i + k) (getD xs k d))
 from f d [] i t k h = absurd (omega (arith, h))
-from f d (x ∷ xs) i t zero h = subst (λ (m : ℕ). T (f m x)) (sym (add-zero i)) (both-left (f i x) (every f (suc i) xs) t)
+from f d (x ∷ xs) i t zero h = subst (λ (m : ℕ). T (f m x)) (sym (add-zero i)) (and-yes (f i x) (every f (suc i) xs) t .0)
 from f d (x ∷ xs) i t (suc k) h =
     subst (λ (m : ℕ). T (f m (getD xs k d))) (suc-add i k ∙ sym (add-suc i k))
-    (from f d xs (suc i) (both-right (f i x) (every f (suc i) xs) t) k (omega (arith, h)))
+    (from f d xs (suc i) (and-yes (f i x) (every f (suc i) xs) t .1) k (omega (arith, h)))
 
 -- ---- the rules as tests on the number
 abbrev flagRule : ℕ → ℕ
@@ -66,7 +59,7 @@ flags-other k a b c d e f = go (decLt k 34)
   where
     go : Dec (k < 34) → 0 ≡ kindOf k .flags
     go (yes h) =
-        let t = eqb→eq (kindOf k .flags) (flagRule k) (both-left (eqb (kindOf k .flags) (flagRule k)) (eqb (ruleNumber (kindOf k .text)) (textRule k)) (inside k h)) in
+        let t = eqb→eq (kindOf k .flags) (flagRule k) (and-yes (eqb (kindOf k .flags) (flagRule k)) (eqb (ruleNumber (kindOf k .text)) (textRule k)) (inside k h) .0) in
         sym (t ∙ rw (ne-eqb k 8 a, ne-eqb k 16 b, ne-eqb k 18 c, ne-eqb k 29 d, ne-eqb k 14 e, ne-eqb k 17 f))
     go (no n) = rw (outside k (omega (arith, n)))
 
@@ -117,6 +110,6 @@ text-other k a b c d e = go (decLt k 34)
   where
     go : Dec (k < 34) → noText ≡ kindOf k .text
     go (yes h) =
-        let t = eqb→eq (ruleNumber (kindOf k .text)) (textRule k) (both-right (eqb (kindOf k .flags) (flagRule k)) (eqb (ruleNumber (kindOf k .text)) (textRule k)) (inside k h)) in
+        let t = eqb→eq (ruleNumber (kindOf k .text)) (textRule k) (and-yes (eqb (kindOf k .flags) (flagRule k)) (eqb (ruleNumber (kindOf k .text)) (textRule k)) (inside k h) .1) in
         none-is (kindOf k .text) (t ∙ rw (ne-eqb k 7 a, ne-eqb k 32 b, ne-eqb k 8 c, ne-eqb k 9 d, ne-eqb k 18 e))
     go (no n) = rw (outside k (omega (arith, n)))

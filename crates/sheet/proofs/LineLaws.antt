@@ -25,15 +25,6 @@ use Rattle.sheet.specs.declared.lines.LineRead.the-variants as read
 use Rattle.sheet.specs.declared.position.Span.{Span}
 
 -- ---- the key as bytes
-pub line-is : (key : String) (s : List ℕ) (at : ℕ) → lineOf (bytes key) s at ≡ line key s at
-unfolding lineOf line
-line-is key s at = refl
-
-pub field-is : {A : Type 0} (key : String) (parse : Text → Option A) (why : Fault) (test : A → Bool) (s : List ℕ) (at : ℕ)
-    → fieldOf (bytes key) parse why test s at ≡ field key parse why test s at
-unfolding lineOf line fieldOf field
-field-is key parse why test s at = refl
-
 pub number-is : (key : String) (why : Fault) (lo hi : ℕ) (s : List ℕ) (at : ℕ) → numberOf (bytes key) why lo hi s at ≡ number key why lo hi s at
 unfolding lineOf line fieldOf field numberOf number
 number-is key why lo hi s at = refl

@@ -1,15 +1,13 @@
 -- Laws of the nodes' reader and of the whole sheet's. Assumes nothing.
 use mathlib.Core.Path.{_≡_, refl, sym, ap, _∙_}
-use mathlib.Core.Bool.{Bool, true, false}
 use mathlib.Core.List.{List, [], _∷_}
-use Prim.Native.Nat.{ℕ, zero, suc, _+_, _-_, _≤_, _<_}
+use Prim.Native.Nat.{ℕ, suc, _+_, _-_, _≤_, _<_}
 use native.Mathlib.Omega.{arith}
 use lib.ListN.{length}
-use lib.Dec.{eqb, leb}
-use borrow.Author.Tests.{le-leb, lt-leb, eq-eqb, ne-eqb, eqb-true}
-use Rattle.spec.specs.Basics.{bytes, if_then_else_}
+use borrow.Author.Tests.{le-leb, lt-leb, eq-eqb, ne-eqb}
+use Rattle.spec.specs.Basics.{bytes}
 use Rattle.spec.specs.Sheet as spec
-use Rattle.spec.specs.Sheet.{Node, Got, got, bad, next, _>>=_, give, wrongCount, faultNumber, node, nodesFrom, nodeList, whole, readSheet, accepted, refused}
+use Rattle.spec.specs.Sheet.{Node, Got, got, bad, next, _>>=_, give, wrongCount, faultNumber, node, nodesFrom, nodeList, whole, readSheet}
 use Rattle.sheet.specs.Keyed.{numberOf}
 use Rattle.sheet.specs.Faults.{faultOf}
 use Rattle.sheet.specs.Numbers.{gotNumber}
@@ -132,52 +130,3 @@ module _ (s : List ℕ) where
                 let b : last .at ≡ place = cc in
                 rw (← b, eq-eqb (last .at) (length s) n, ← a, at-first)
             go (bad w place) u = let z : _≡_ {A = ℕ} 0 1 = cc in absurd (omega arith)
-
--- ---- what an accepted sheet is
-pub nodes-many : (left nodes i : ℕ) (s : List ℕ) (at : ℕ) (ns : List Node) (place : ℕ) → nodesFrom left nodes i s at ≡ got ns place → length ns ≡ left
-unfolding nodesFrom _>>=_ next give
-nodes-many zero nodes i s at ns place e = let f : [] ≡ ns = cc in sym (ap length f)
-nodes-many (suc left) nodes i s at ns place e = go (node nodes i s at) (nodes-many left nodes (i + 1) s) e
-  where
-    rest : (n : Node) (g : Got (List Node)) → ((ms : List Node) (p : ℕ) → g ≡ got ms p → length ms ≡ left) → next (λ ms _ p. got (n ∷ ms) p) s g ≡ got ns place → length ns ≡ suc left
-    rest n (got ms p) f q = let h : n ∷ ms ≡ ns = cc in sym (ap length h) ∙ ap suc (f ms p refl)
-    rest n (bad w p) f q = let z : _≡_ {A = ℕ} 0 1 = cc in absurd (omega arith)
-
-    go : (g : Got Node) → ((p : ℕ) (ms : List Node) (q : ℕ) → nodesFrom left nodes (i + 1) s p ≡ got ms q → length ms ≡ left)
-        → next (λ n s p. next (λ ms _ q. got (n ∷ ms) q) s (nodesFrom left nodes (i + 1) s p)) s g ≡ got ns place → length ns ≡ suc left
-    go (got n p) f q = rest n (nodesFrom left nodes (i + 1) s p) (f p) q
-    go (bad w p) f q = let z : _≡_ {A = ℕ} 0 1 = cc in absurd (omega arith)
-
-pub record AcceptedSheet (s : List ℕ) (count : ℕ) (first : Position) : Type 0 where
-  pub nodes : List Node
-  pub judged : readSheet s ≡ accepted nodes
-  pub many : length nodes ≡ count
-  pub read : nodesFrom count count 0 s (first .at) ≡ got nodes (length s)
-
-pub accepted-sheet : (s : List ℕ) (count : ℕ) (first : Position) → Accepted count first ≡ answer s (readSheet s) → AcceptedSheet s count first
-unfolding answer readSheet whole nodeList firstNode _>>=_ next
-accepted-sheet s count first e = long (leb (length s) 1048576) (spec.number "nodes=" wrongCount 1 4096 s 0) refl refl e
-  where
-    ended : (t : Bool) → leb (length s) 1048576 ≡ true → (n p : ℕ) → spec.number "nodes=" wrongCount 1 4096 s 0 ≡ got n p
-        → (g : Got (List Node)) → nodesFrom n n 0 s p ≡ g → (q : ℕ) (ns : List Node) → g ≡ got ns q → eqb q (length s) ≡ t
-        → Accepted count first ≡ answer s (if t then accepted ns else refused 2 q) → AcceptedSheet s count first
-    ended true a n p b g c q ns d u v =
-        let m = nodes-many n n 0 s p ns q (c ∙ d) in
-        let k : count ≡ length ns = cc in
-        let i : first ≡ firstNode s = cc in
-        let x : first .at ≡ p = ap (λ (z : Position). z .at) i ∙ rw b in
-        let y : count ≡ n = k ∙ m in
-        let w = eqb-true q (length s) u in
-        record { nodes = ns; judged = rw (a, b, c, d, u); many = sym k; read = rw (x, y, c, d, w) }
-    ended false a n p b g c q ns d u v = let z : _≡_ {A = ℕ} 0 1 = cc in absurd (omega arith)
-
-    counts : leb (length s) 1048576 ≡ true → (n p : ℕ) → spec.number "nodes=" wrongCount 1 4096 s 0 ≡ got n p
-        → (g : Got (List Node)) → nodesFrom n n 0 s p ≡ g → Accepted count first ≡ answer s (whole s g) → AcceptedSheet s count first
-    counts a n p b (got ns q) c v = ended (eqb q (length s)) a n p b (got ns q) c q ns refl refl v
-    counts a n p b (bad w q) c v = let z : _≡_ {A = ℕ} 0 1 = cc in absurd (omega arith)
-
-    long : (t : Bool) (o : Got ℕ) → leb (length s) 1048576 ≡ t → spec.number "nodes=" wrongCount 1 4096 s 0 ≡ o
-        → Accepted count first ≡ answer s (if t then whole s (next (λ n. nodesFrom n n 0) s o) else refused 1 0) → AcceptedSheet s count first
-    long true (got n p) a b v = counts a n p b (nodesFrom n n 0 s p) refl v
-    long true (bad w p) a b v = let z : _≡_ {A = ℕ} 0 1 = cc in absurd (omega arith)
-    long false o a b v = let z : _≡_ {A = ℕ} 0 1 = cc in absurd (omega arith)

@@ -2,6 +2,7 @@
 use mathlib.Core.Path.{_≡_, refl}
 use mathlib.Core.Bool.{Bool, true, false, _&&_}
 use mathlib.Core.List.{List, [], _∷_, _++_}
+use mathlib.Mathlib.Data.Bool.Basic.{and-intro}
 use Prim.Native.Nat.{ℕ, _≤_, _<_}
 use native.Mathlib.Omega.{arith}
 use lib.Dec.{leb, ltb}
@@ -9,16 +10,15 @@ use borrow.Author.Tests.{lt-ltb, le-leb, leb-true, leb-false, ne-eqb}
 use Rattle.words.specs.Words.{word}
 use Rattle.spec.specs.Basics.{ExprId}
 use Rattle.spec.specs.Scopes.{oneOrNone, fieldNames, fieldDefaults, patFields, keysAndValues, form}
-use Rattle.spec.proofs.Sums.{all-right}
-use Rattle.spec.proofs.Ordered.{AllBelow}
-use Rattle.spec.proofs.Numbers.{staticValues}
+use Rattle.spec.proofs.general.Sums.{all-right}
+use Rattle.spec.proofs.sound.Ordered.{AllBelow}
+use Rattle.spec.proofs.sound.Numbers.{staticValues}
 use Rattle.layout.specs.Layout.{nameCount}
 use Rattle.layout.specs.Exprs.{Item, children, fields, statics, dynamics, bindings, pattern, exprOf}
 use Rattle.soundness.specs.Sound.{nameFits, fieldsFit}
 use Rattle.soundness.specs.Coded.{fieldsCoded}
-use Rattle.soundness.proofs.SoundLaws.{both-hold}
 use Rattle.soundness.proofs.NumberLaws.{by-sort}
-use Rattle.soundness.proofs.ModuleLaws.{InRow}
+use Rattle.spec.proofs.sound.Lowered.{InRow}
 
 -- ---- a sort that there is
 pub sort-in : (s : List ℕ) (sort a b : ℕ) → fieldsCoded s sort a b ≡ true → sort ≤ 28
@@ -43,20 +43,20 @@ module _ (s : List ℕ) (e : ExprId) (a b c : ℕ) (is : List Item) where
   one x l = lt-ltb x e l
 
   two : a < e → b < e → (ltb a e && ltb b e) ≡ true
-  two l m = both-hold (ltb a e) (ltb b e) (one a l) (one b m)
+  two l m = and-intro (one a l) (one b m)
 
   three : a < e → b < e → c < e → (ltb a e && (ltb b e && ltb c e)) ≡ true
-  three l m k = both-hold (ltb a e) _ (one a l) (both-hold (ltb b e) (ltb c e) (one b m) (one c k))
+  three l m k = and-intro (one a l) (and-intro (one b m) (one c k))
 
   named : a < e → b < word s nameCount → (ltb a e && nameFits s b) ≡ true
   unfolding nameFits
-  named l m = both-hold (ltb a e) (nameFits s b) (one a l) (lt-ltb b (word s nameCount) m)
+  named l m = and-intro (one a l) (lt-ltb b (word s nameCount) m)
 
   binary : a < e → b < e → (1 ≤ c) × (c ≤ 15) → (ltb a e && (ltb b e && (leb 1 c && leb c 15))) ≡ true
-  binary l m o = both-hold (ltb a e) _ (one a l) (both-hold (ltb b e) _ (one b m) (both-hold (leb 1 c) (leb c 15) (le-leb 1 c (o .0)) (le-leb c 15 (o .1))))
+  binary l m o = and-intro (one a l) (and-intro (one b m) (and-intro (le-leb 1 c (o .0)) (le-leb c 15 (o .1))))
 
   unary : (1 ≤ a) × (a ≤ 2) → b < e → (leb 1 a && (leb a 2 && ltb b e)) ≡ true
-  unary o m = both-hold (leb 1 a) _ (le-leb 1 a (o .0)) (both-hold (leb a 2) (ltb b e) (le-leb a 2 (o .1)) (one b m))
+  unary o m = and-intro (le-leb 1 a (o .0)) (and-intro (le-leb a 2 (o .1)) (one b m))
 
   -- the body of a function comes after the defaults
   body : AllBelow e (fieldDefaults (fields is) ++ (a ∷ [])) → a < e

@@ -1,8 +1,9 @@
 -- Bytes that say a sound module, and are what decoding takes them for, pass the module's part of the test. Assumes nothing.
 use mathlib.Core.Path.{_≡_, refl, ap, subst, _∙_}
-use mathlib.Core.Bool.{Bool, true, false, _||_}
+use mathlib.Core.Bool.{true, or-true}
 use mathlib.Core.List.{List, []}
 use mathlib.Core.Option.{none}
+use mathlib.Mathlib.Data.Bool.Basic.{and-elim-left, and-elim-right, and-intro}
 use Prim.Native.Nat.{ℕ, _+_, _-_, _*_, _≤_, _<_}
 use native.Mathlib.Omega.{arith}
 use lib.Dec.{eqb}
@@ -13,15 +14,16 @@ use Rattle.spec.specs.Basics.{ExprId}
 use Rattle.spec.specs.Module.{Expr, Made, missing}
 use Rattle.spec.specs.Lower.{moduleOf}
 use Rattle.spec.specs.Scopes.{madeAt, exprAt}
-use Rattle.layout.specs.Layout.{exprCount, nameCount, entryPlace, exprsAt, itemsAt, diagnosticCount, diagnosticsAt, exprLimit, itemLimit, nameLimit}
+use Rattle.layout.specs.Layout.{exprLimit, itemLimit, nameLimit, exprRow, itemRow, diagnosticRow, exprCount, nameCount, diagnosticCount, entryPlace, exprsAt, itemsAt, diagnosticsAt}
 use Rattle.layout.specs.Rows.{cap}
 use Rattle.layout.specs.Exprs.{text, itemOf, itemAt, itemIn, exprOf, firstItem, itemsOf, sortOf, madeIn}
 use Rattle.layout.specs.States.{nameIn, exprsOf, namesOf, stateOf, moduleIn}
 use Rattle.layout.proofs.RowLaws.{length-rows, getD-rows, getD-between, cap-le}
-use Rattle.soundness.specs.Sound.{ascends, textFits, exprFits, entryFits, tagFits, itemFits, rowFits, exprsFit, nameRowFits, namesFit, diagnosticsFit}
+use Rattle.texts.specs.Fits.{textFits}
+use Rattle.soundness.specs.Sound.{ascends, exprFits, entryFits, tagFits, itemFits, rowFits, exprsFit, nameRowFits, namesFit, diagnosticsFit}
 use Rattle.soundness.specs.Coded.{rowCoded, itemCoded, Coded, ModuleFits}
-use Rattle.soundness.proofs.SoundLaws.{first-of, second-of, both-hold, all-from-each, from-each, ascends-from, below-limit}
-use Rattle.soundness.proofs.ModuleLaws.{InRow, SoundModule, in-row}
+use Rattle.soundness.proofs.SoundLaws.{all-from-each, from-each, ascends-from, below-limit}
+use Rattle.spec.proofs.sound.Lowered.{InRow, SoundModule, in-row}
 use Rattle.soundness.proofs.FieldLaws.{sort-in, fields-fit}
 use Rattle.soundness.proofs.ItemSortLaws.{item-fits}
 
@@ -40,7 +42,7 @@ module _ (s : List ℕ) (c : Coded s) where
   entry-there = refl
 
   expr-there : (e : ExprId) → e < word s exprCount
-      → exprAt (moduleIn s) e ≡ exprOf s (sortOf s e) (word s (exprsAt + 20 * e + 8)) (word s (exprsAt + 20 * e + 12)) (word s (exprsAt + 20 * e + 16)) (itemsOf s e)
+      → exprAt (moduleIn s) e ≡ exprOf s (sortOf s e) (word s (exprsAt + exprRow * e + 8)) (word s (exprsAt + exprRow * e + 12)) (word s (exprsAt + exprRow * e + 16)) (itemsOf s e)
   unfolding exprAt madeAt moduleIn moduleOf stateOf exprsOf madeIn
   expr-there e l =
       let below : e < cap (word s exprCount) exprLimit = rw (cap-le (word s exprCount) exprLimit (c .fewExprs)) l in
@@ -53,7 +55,7 @@ module _ (s : List ℕ) (c : Coded s) where
   first-in e l = below-limit (firstItem s) (word s exprCount) itemLimit firsts-ascend e l
 
   item-there : (e : ExprId) (j : ℕ) → e < word s exprCount → firstItem s e ≤ j → j < firstItem s (e + 1)
-      → getD (itemsOf s e) (j - firstItem s e) (text []) ≡ itemOf s (word s (itemsAt + 12 * j)) (word s (itemsAt + 12 * j + 4)) (word s (itemsAt + 12 * j + 8))
+      → getD (itemsOf s e) (j - firstItem s e) (text []) ≡ itemOf s (word s (itemsAt + itemRow * j)) (word s (itemsAt + itemRow * j + 4)) (word s (itemsAt + itemRow * j + 8))
   unfolding itemsOf itemIn itemAt
   item-there e j l from to =
       let back : firstItem s e + (j - firstItem s e) ≡ j = omega arith in
@@ -63,42 +65,38 @@ module _ (s : List ℕ) (c : Coded s) where
   -- ---- a row, where the module is sound
   module _ (m : SoundModule (moduleIn s)) where
     module _ (e : ExprId) (l : e < word s exprCount) where
-      known : InRow e (word s nameCount) (exprOf s (sortOf s e) (word s (exprsAt + 20 * e + 8)) (word s (exprsAt + 20 * e + 12)) (word s (exprsAt + 20 * e + 16)) (itemsOf s e))
+      known : InRow e (word s nameCount) (exprOf s (sortOf s e) (word s (exprsAt + exprRow * e + 8)) (word s (exprsAt + exprRow * e + 12)) (word s (exprsAt + exprRow * e + 16)) (itemsOf s e))
       known = subst (λ (x : Expr). InRow e (word s nameCount) x) (expr-there e l) (subst (λ (n : ℕ). InRow e n (exprAt (moduleIn s) e)) names-there (in-row (moduleIn s) m e))
 
       sort-there : sortOf s e ≤ 28
       unfolding rowCoded
-      sort-there = sort-in s (sortOf s e) (word s (exprsAt + 20 * e + 8)) (word s (exprsAt + 20 * e + 12)) (c .rows e l)
+      sort-there = sort-in s (sortOf s e) (word s (exprsAt + exprRow * e + 8)) (word s (exprsAt + exprRow * e + 12)) (c .rows e l)
 
       one-item : (j : ℕ) → firstItem s e ≤ j → j < firstItem s (e + 1) → itemFits s e (sortOf s e) j ≡ true
       unfolding itemFits itemCoded
       one-item j from to =
-          let at = itemsAt + 12 * j in
+          let at = itemsAt + itemRow * j in
           let coded = c .items e j l from to in
-          let tagged = first-of (tagFits (sortOf s e) (word s at)) _ coded in
-          both-hold (tagFits (sortOf s e) (word s at)) _ tagged
+          let tagged = and-elim-left (tagFits (sortOf s e) (word s at)) _ coded in
+          and-intro tagged
           (item-fits s e _ _ _ (itemsOf s e) (j - firstItem s e) (word s at) (word s (at + 4)) (word s (at + 8)) (item-there e j l from to) (sortOf s e) sort-there known tagged
-          (second-of (tagFits (sortOf s e) (word s at)) _ coded))
+          (and-elim-right (tagFits (sortOf s e) (word s at)) _ coded))
 
       row-fits : rowFits s e ≡ true
       unfolding rowFits rowCoded
       row-fits =
-          both-hold _ _ (fields-fit s e _ _ _ (itemsOf s e) (sortOf s e) known (c .rows e l)) (from-each (itemFits s e (sortOf s e)) (firstItem s e) (firstItem s (e + 1)) one-item)
+          and-intro (fields-fit s e _ _ _ (itemsOf s e) (sortOf s e) known (c .rows e l)) (from-each (itemFits s e (sortOf s e)) (firstItem s e) (firstItem s (e + 1)) one-item)
 
     -- ---- all of it
     entry-fits : entryFits s ≡ true
     unfolding entryFits exprFits
     entry-fits =
         let there : word s entryPlace < word s exprCount = rw (← entry-there, ← exprs-there) (m .entry) in
-        rw (lt-ltb (word s entryPlace) (word s exprCount) there) (either (eqb (word s exprCount) 0))
-      where
-        either : (b : Bool) → (b || true) ≡ true
-        either true = refl
-        either false = refl
+        rw (lt-ltb (word s entryPlace) (word s exprCount) there) (or-true (eqb (word s exprCount) 0))
 
     exprs-fit : exprsFit s ≡ true
     unfolding exprsFit
-    exprs-fit = both-hold _ _ firsts-ascend (all-from-each (rowFits s) (word s exprCount) row-fits)
+    exprs-fit = and-intro firsts-ascend (all-from-each (rowFits s) (word s exprCount) row-fits)
 
 -- THEOREM. A sound module in bytes that are coded for it fits.
 pub coded-fits : (s : List ℕ) → Coded s → SoundModule (moduleIn s) → ModuleFits s
@@ -112,5 +110,5 @@ coded-fits s c m =
       entry = entry-fits s c m;
       exprs = exprs-fit s c m;
       names = all-from-each (nameRowFits s) (word s nameCount) (c .names);
-      diagnostics = all-from-each (λ i. textFits s (word s (diagnosticsAt + 28 * i))) (word s diagnosticCount) (c .diagnostics);
+      diagnostics = all-from-each (λ i. textFits s (word s (diagnosticsAt + diagnosticRow * i))) (word s diagnosticCount) (c .diagnostics);
     }

@@ -2,6 +2,7 @@
 use mathlib.Core.Path.{_≡_, refl}
 use mathlib.Core.Bool.{Bool, true, false, _&&_, _||_}
 use mathlib.Core.List.{List, [], _∷_}
+use mathlib.Mathlib.Data.Bool.Basic.{and-elim-right, and-intro}
 use Prim.Native.Nat.{ℕ, _≤_, _<_}
 use native.Mathlib.Omega.{arith}
 use lib.Dec.{eqb, leb, ltb}
@@ -9,14 +10,13 @@ use borrow.Author.Tests.{lt-ltb, leb-true, eqb-true}
 use Rattle.words.specs.Words.{word}
 use Rattle.spec.specs.Basics.{ExprId}
 use Rattle.spec.specs.Scopes.{oneOrNone, fieldNames, fieldDefaults, interpolated, keysAndValues}
-use Rattle.spec.proofs.Sums.{All, all-left, all-right}
-use Rattle.spec.proofs.Ordered.{AllBelow}
-use Rattle.spec.proofs.Numbers.{valueNumber, staticNames, staticValues}
+use Rattle.spec.proofs.general.Sums.{All, all-left, all-right}
+use Rattle.spec.proofs.sound.Ordered.{AllBelow}
+use Rattle.spec.proofs.sound.Numbers.{valueNumber, staticNames, staticValues}
 use Rattle.layout.specs.Layout.{nameCount}
 use Rattle.layout.specs.Exprs.{Item, child, text, field, static, dynamic, itemOf, children, parts, fields, statics, dynamics}
 use Rattle.soundness.specs.Sound.{nameFits, numbersFit}
 use Rattle.soundness.specs.Coded.{partCoded}
-use Rattle.soundness.proofs.SoundLaws.{both-hold, second-of}
 use Rattle.soundness.proofs.NumberLaws.{by-tag, no-such}
 
 -- ---- items of an expression numbered e where there are n names, by the list that they stand in
@@ -93,7 +93,7 @@ module _ (s : List ℕ) (e : ExprId) (a b : ℕ) where
   named l = lt-ltb a (word s nameCount) l
 
   named-child : a < word s nameCount → b < e → (nameFits s a && ltb b e) ≡ true
-  named-child l m = both-hold (nameFits s a) (ltb b e) (named l) (lt-ltb b e m)
+  named-child l m = and-intro (named l) (lt-ltb b e m)
 
   -- the words of an item of which P is known, in a list that has items of such tags
   abbrev NumbersAt : (Item → Type 0) → (ℕ → Bool) → ℕ → Type 0
@@ -116,7 +116,7 @@ module _ (s : List ℕ) (e : ExprId) (a b : ℕ) where
   pub field-fits : (tag : ℕ) → NumbersAt (FieldBelow e (word s nameCount)) (λ t. leb 2 t && leb t 5) tag
   unfolding itemOf numbersFit oneOrNone
   field-fits tag t =
-      let l : tag ≤ 5 = leb-true tag 5 (second-of (leb 2 tag) (leb tag 5) t) in
+      let l : tag ≤ 5 = leb-true tag 5 (and-elim-right (leb 2 tag) (leb tag 5) t) in
       by-tag (NumbersAt (FieldBelow e (word s nameCount)) (λ t. leb 2 t && leb t 5))
       no-such no-such
       (λ t h p. refl)
@@ -135,9 +135,9 @@ module _ (s : List ℕ) (e : ExprId) (a b : ℕ) where
       (λ t h p. named-child (h .0) (h .1))
       (λ t h p. named-child (h .0) (h .1))
       (λ t h p. named-child (h .0) (h .1))
-      (λ t h p. both-hold (ltb a e) (ltb b e) (lt-ltb a e (h .0)) (lt-ltb b e (h .1)))
+      (λ t h p. and-intro (lt-ltb a e (h .0)) (lt-ltb b e (h .1)))
       tag (to-9 (eqb tag 0) refl) t
     where
       to-9 : (q : Bool) → eqb tag 0 ≡ q → tag ≤ 9
       to-9 true z = let z : tag ≡ 0 = eqb-true tag 0 z in omega arith
-      to-9 false z = leb-true tag 9 (second-of (leb 6 tag) (leb tag 9) (rw z at t))
+      to-9 false z = leb-true tag 9 (and-elim-right (leb 6 tag) (leb tag 9) (rw z at t))

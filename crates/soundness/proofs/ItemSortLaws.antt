@@ -8,15 +8,15 @@ use lib.ListN.{getD}
 use Rattle.words.specs.Words.{word}
 use Rattle.spec.specs.Basics.{ExprId}
 use Rattle.spec.specs.Scopes.{oneOrNone, fieldNames, fieldDefaults, patFields, interpolated, keysAndValues, form}
-use Rattle.spec.proofs.Sums.{All, all-left, all-right, all-getD}
-use Rattle.spec.proofs.Ordered.{AllBelow}
-use Rattle.spec.proofs.Numbers.{staticNames, staticValues}
+use Rattle.spec.proofs.general.Sums.{All, all-left, all-right, all-getD}
+use Rattle.spec.proofs.sound.Ordered.{AllBelow}
+use Rattle.spec.proofs.sound.Numbers.{staticNames, staticValues}
 use Rattle.layout.specs.Layout.{nameCount}
 use Rattle.layout.specs.Exprs.{Item, text, itemOf, children, parts, fields, statics, dynamics, bindings, pattern, exprOf}
 use Rattle.soundness.specs.Sound.{tagFits, numbersFit}
 use Rattle.soundness.specs.Coded.{partCoded}
 use Rattle.soundness.proofs.NumberLaws.{by-sort, no-such}
-use Rattle.soundness.proofs.ModuleLaws.{InRow}
+use Rattle.spec.proofs.sound.Lowered.{InRow}
 use Rattle.soundness.proofs.ItemLaws.{ChildBelow, FieldBelow, BindingBelow, from-children, from-parts, from-fields, from-bindings, child-fits, part-fits, field-fits, binding-fits}
 
 -- the item at the place j of an expression's items, by its words

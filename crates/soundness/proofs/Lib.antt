@@ -1,12 +1,10 @@
 pub mod SoundLaws
 pub mod SoundCountLaws
-pub mod SoundTextLaws
 pub mod SoundRowLaws
 pub mod SoundTableLaws
 pub mod SoundVerdictLaws
 pub mod CodedLaws
 pub mod NumberLaws
-pub mod ModuleLaws
 pub mod FieldLaws
 pub mod ItemLaws
 pub mod ItemSortLaws

@@ -2,21 +2,21 @@
 use mathlib.Core.Path.{_≡_}
 use mathlib.Core.Bool.{Bool, true, false, _&&_, _||_}
 use mathlib.Core.List.{List}
+use mathlib.Mathlib.Data.Bool.Basic.{and-elim-left, and-elim-right}
 use Prim.Native.Nat.{ℕ, _+_, _*_, _≤_, _<_}
 use native.Mathlib.Omega.{arith}
 use lib.Dec.{eqb, leb, ltb}
 use borrow.Author.Tests.{leb-true, lt-ltb, le-ltb}
 use Rattle.words.specs.Words.{word}
-use Rattle.layout.specs.Layout.{Long, lostCount, spentPlace, entryPlace}
+use Rattle.layout.specs.Layout.{exprLimit, nameLimit, diagnosticLimit, scopeLimit, roomLimit, loadedTextLimit, exprCount, nameCount, diagnosticCount, lostCount, entryPlace, scopeCount, spentPlace, textsPlace, Long}
 use Rattle.soundness.specs.Sound.{countsFit, entryFits, exprFits, nameFits}
 use Rattle.soundness.specs.SoundCounts.{Taken, Counted}
 use Rattle.soundness.specs.declared.counts.Counts.{Counts}
-use Rattle.soundness.proofs.SoundLaws.{first-of, second-of}
 
 -- ---- counts
 module _ (s : List ℕ) (c : Counts) (h : Taken s c) where
   pub counts-are : (lost spent : ℕ) → lost ≡ word s lostCount → spent ≡ word s spentPlace
-      → (leb (c .exprs) 16384 && (leb (c .names) 4096 && (leb (c .diagnostics) 32768 && (leb lost 32768 && (leb (c .scopes) 4096 && (leb spent 8192 && leb (c .texts) (745472 + 5 * spent))))))) ≡ countsFit s
+      → (leb (c .exprs) exprLimit && (leb (c .names) nameLimit && (leb (c .diagnostics) diagnosticLimit && (leb lost diagnosticLimit && (leb (c .scopes) scopeLimit && (leb spent roomLimit && leb (c .texts) (loadedTextLimit + 5 * spent))))))) ≡ countsFit s
   unfolding countsFit
   counts-are lost spent l p = rw (h .exprs, h .names, h .diagnostics, h .scopes, h .texts, l, p)
 
@@ -28,17 +28,17 @@ module _ (s : List ℕ) (c : Counts) (h : Taken s c) where
   pub counted : Long s → countsFit s ≡ true → Counted s c
   unfolding countsFit
   counted l f =
-      let f1 = second-of (leb (word s 0) 16384) _ f in
-      let f2 = second-of (leb (word s 4) 4096) _ f1 in
-      let f3 = second-of (leb (word s 8) 32768) _ f2 in
-      let f4 = second-of (leb (word s 12) 32768) _ f3 in
-      let f5 = second-of (leb (word s 20) 4096) _ f4 in
-      let e : word s 0 ≤ 16384 = leb-true (word s 0) 16384 (first-of (leb (word s 0) 16384) _ f) in
-      let n : word s 4 ≤ 4096 = leb-true (word s 4) 4096 (first-of (leb (word s 4) 4096) _ f1) in
-      let d : word s 8 ≤ 32768 = leb-true (word s 8) 32768 (first-of (leb (word s 8) 32768) _ f2) in
-      let i : word s 20 ≤ 4096 = leb-true (word s 20) 4096 (first-of (leb (word s 20) 4096) _ f4) in
-      let p : word s 24 ≤ 8192 = leb-true (word s 24) 8192 (first-of (leb (word s 24) 8192) _ f5) in
-      let t : word s 28 ≤ 745472 + 5 * word s 24 = leb-true (word s 28) (745472 + 5 * word s 24) (second-of (leb (word s 24) 8192) _ f5) in
+      let f1 = and-elim-right (leb (word s exprCount) exprLimit) _ f in
+      let f2 = and-elim-right (leb (word s nameCount) nameLimit) _ f1 in
+      let f3 = and-elim-right (leb (word s diagnosticCount) diagnosticLimit) _ f2 in
+      let f4 = and-elim-right (leb (word s lostCount) diagnosticLimit) _ f3 in
+      let f5 = and-elim-right (leb (word s scopeCount) scopeLimit) _ f4 in
+      let e : word s exprCount ≤ exprLimit = leb-true (word s exprCount) exprLimit (and-elim-left (leb (word s exprCount) exprLimit) _ f) in
+      let n : word s nameCount ≤ nameLimit = leb-true (word s nameCount) nameLimit (and-elim-left (leb (word s nameCount) nameLimit) _ f1) in
+      let d : word s diagnosticCount ≤ diagnosticLimit = leb-true (word s diagnosticCount) diagnosticLimit (and-elim-left (leb (word s diagnosticCount) diagnosticLimit) _ f2) in
+      let i : word s scopeCount ≤ scopeLimit = leb-true (word s scopeCount) scopeLimit (and-elim-left (leb (word s scopeCount) scopeLimit) _ f4) in
+      let p : word s spentPlace ≤ roomLimit = leb-true (word s spentPlace) roomLimit (and-elim-left (leb (word s spentPlace) roomLimit) _ f5) in
+      let t : word s textsPlace ≤ loadedTextLimit + 5 * word s spentPlace = leb-true (word s textsPlace) (loadedTextLimit + 5 * word s spentPlace) (and-elim-right (leb (word s spentPlace) roomLimit) _ f5) in
       record {
         long = l;
         taken = h;

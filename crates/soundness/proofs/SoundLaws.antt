@@ -1,6 +1,7 @@
 -- Laws of the tests over rows, for any test: all rows up to one, those from one on, and firsts that ascend. Assumes nothing.
 use mathlib.Core.Path.{_≡_, refl, sym, _∙_}
 use mathlib.Core.Bool.{Bool, true, false, _&&_, _||_}
+use mathlib.Mathlib.Data.Bool.Basic.{and-elim-left, and-elim-right, and-intro}
 use Prim.Native.Nat.{ℕ, zero, suc, _+_, _≤_, _<_}
 use native.Mathlib.Nat.{not-suc-le-zero}
 use native.Mathlib.Numerals.{add-one}
@@ -9,24 +10,13 @@ use lib.Dec.{eqb, leb, ltb}
 use borrow.Author.Tests.{eqb-true, eqb-false, leb-true, ltb-false, lt-ltb, le-ltb, le-leb, lt-leb, eq-eqb, ne-eqb}
 use Rattle.soundness.specs.Sound.{allTo, allFrom, ascends}
 
--- ---- two tests
-pub first-of : (a b : Bool) → (a && b) ≡ true → a ≡ true
-first-of true b h = refl
-first-of false b h = h
-
-pub second-of : (a b : Bool) → (a && b) ≡ true → b ≡ true
-second-of true b h = h
-second-of false b h = let z : _≡_ {A = ℕ} 0 1 = cc in absurd (omega arith)
-
+-- ---- two tests, one of which fails
 pub second-fails : (a b : Bool) → b ≡ false → (a && b) ≡ false
 second-fails true b h = h
 second-fails false b h = refl
 
 pub first-fails : (a b : Bool) → a ≡ false → (a && b) ≡ false
 first-fails a b h = rw h
-
-pub both-hold : (a b : Bool) → a ≡ true → b ≡ true → (a && b) ≡ true
-both-hold a b h k = rw (h, k)
 
 -- a number is another, or below it
 at-or-below : {A : Type 0} (i n : ℕ) → i ≤ n → (i ≡ n → A) → (i < n → A) → A
@@ -44,7 +34,7 @@ module _ (f : ℕ → Bool) where
 
   pub all-more : (i : ℕ) → allTo f i ≡ true → f i ≡ true → allTo f (i + 1) ≡ true
   unfolding allTo
-  all-more i a h = rw (add-one i) (both-hold (allTo f i) (f i) a h)
+  all-more i a h = rw (add-one i) (and-intro a h)
 
   -- one of them fails
   pub all-fails : (n i : ℕ) → i < n → f i ≡ false → allTo f n ≡ false
@@ -61,23 +51,23 @@ module _ (f : ℕ → Bool) where
   all-fewer (suc i) n l h =
       at-or-below n (suc i) l
       (λ e. rw e h)
-      (λ m. all-fewer i n (omega arith) (first-of (allTo f i) (f i) h))
+      (λ m. all-fewer i n (omega arith) (and-elim-left (allTo f i) (f i) h))
 
   pub all-each : (n i : ℕ) → allTo f n ≡ true → i < n → f i ≡ true
   unfolding allTo
-  all-each n i h l = second-of (allTo f i) (f i) (all-fewer n (suc i) (omega arith) h)
+  all-each n i h l = and-elim-right (allTo f i) (f i) (all-fewer n (suc i) (omega arith) h)
 
   pub all-from-each : (n : ℕ) → ((i : ℕ) → i < n → f i ≡ true) → allTo f n ≡ true
   unfolding allTo
   all-from-each zero h = refl
-  all-from-each (suc n) h = both-hold (allTo f n) (f n) (all-from-each n (λ i l. h i (omega arith))) (h n (omega arith))
+  all-from-each (suc n) h = and-intro (all-from-each n (λ i l. h i (omega arith))) (h n (omega arith))
 
 -- ---- those from i on, before j
 module _ (f : ℕ → Bool) (i : ℕ) where
   passed-over : (j : ℕ) → j ≤ i → allTo (λ k. ltb k i || f k) j ≡ true
   unfolding allTo
   passed-over zero l = refl
-  passed-over (suc j) l = both-hold _ _ (passed-over j (omega arith)) (rw (lt-ltb j i (omega arith)))
+  passed-over (suc j) l = and-intro (passed-over j (omega arith)) (rw (lt-ltb j i (omega arith)))
 
   pub from-none : allFrom f i i ≡ true
   unfolding allFrom
@@ -157,6 +147,6 @@ module _ (first : ℕ → ℕ) where
     pub below-limit : ascends first n limit ≡ true → (i : ℕ) → i ≤ n → first i ≤ limit
     unfolding ascends
     below-limit h i l =
-        let rest : (allTo (rises first) n && leb (first n) limit) ≡ true = second-of (eqb (first 0) 0) (allTo (rises first) n && leb (first n) limit) h in
-        let top : first n ≤ limit = leb-true (first n) limit (second-of (allTo (rises first) n) (leb (first n) limit) rest) in
-        omega (arith, up (first-of (allTo (rises first) n) (leb (first n) limit) rest) n (omega arith) i l)
+        let rest : (allTo (rises first) n && leb (first n) limit) ≡ true = and-elim-right (eqb (first 0) 0) (allTo (rises first) n && leb (first n) limit) h in
+        let top : first n ≤ limit = leb-true (first n) limit (and-elim-right (allTo (rises first) n) (leb (first n) limit) rest) in
+        omega (arith, up (and-elim-left (allTo (rises first) n) (leb (first n) limit) rest) n (omega arith) i l)

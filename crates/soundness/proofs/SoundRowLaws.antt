@@ -10,9 +10,10 @@ use types.Run.{OneOf}
 use Rattle.words.specs.Words.{word}
 use Rattle.words.specs.Order.{pick}
 use Rattle.words.proofs.Tests.{at-number, NoneOf, someKey, no-key, at-key}
-use Rattle.layout.specs.Layout.{nameCount, exprsAt, itemsAt}
+use Rattle.layout.specs.Layout.{exprRow, itemRow, nameCount, exprsAt, itemsAt}
 use Rattle.layout.specs.Exprs.{wide, firstItem, sortOf}
-use Rattle.soundness.specs.Sound.{allFrom, nameFits, textFits, fieldsFit, tagFits, numbersFit, itemFits, rowFits}
+use Rattle.texts.specs.Fits.{textFits}
+use Rattle.soundness.specs.Sound.{allFrom, nameFits, fieldsFit, tagFits, numbersFit, itemFits, rowFits}
 
 -- ---- the words of a row, by the keys of the arms
 module _ (s : List ℕ) (e sort a b c : ℕ) where
@@ -203,29 +204,29 @@ module _ (s : List ℕ) (e tag a b : ℕ) where
       )
 
 -- ---- an item: its tag, then its numbers
-module _ (s : List ℕ) (e sort j tag : ℕ) (t : tag ≡ word s (itemsAt + 12 * j)) (r : Bool) (h : r ≡ tagFits sort tag) where
+module _ (s : List ℕ) (e sort j tag : ℕ) (t : tag ≡ word s (itemsAt + itemRow * j)) (r : Bool) (h : r ≡ tagFits sort tag) where
   pub tag-fails : r ≡ false → false ≡ itemFits s e sort j
   unfolding itemFits
   tag-fails f = rw (← t, ← h, f)
 
-  pub tag-passes : r ≡ true → (a b : ℕ) → a ≡ word s (itemsAt + 12 * j + 4) → b ≡ word s (itemsAt + 12 * j + 8) → (q : Bool) → q ≡ numbersFit s e tag a b → q ≡ itemFits s e sort j
+  pub tag-passes : r ≡ true → (a b : ℕ) → a ≡ word s (itemsAt + itemRow * j + 4) → b ≡ word s (itemsAt + itemRow * j + 8) → (q : Bool) → q ≡ numbersFit s e tag a b → q ≡ itemFits s e sort j
   unfolding itemFits
   tag-passes f a b aw bw q n = rw (← t, ← aw, ← bw, ← h, f) n
 
 -- ---- a row: its words, then its items
-module _ (s : List ℕ) (e sort a b c : ℕ) (sw : sort ≡ word s (exprsAt + 20 * e + 4)) (aw : a ≡ word s (exprsAt + 20 * e + 8)) (bw : b ≡ word s (exprsAt + 20 * e + 12))
-    (cw : c ≡ word s (exprsAt + 20 * e + 16)) (r : Bool) (h : r ≡ fieldsFit s e sort a b c) where
+module _ (s : List ℕ) (e sort a b c : ℕ) (sw : sort ≡ word s (exprsAt + exprRow * e + 4)) (aw : a ≡ word s (exprsAt + exprRow * e + 8)) (bw : b ≡ word s (exprsAt + exprRow * e + 12))
+    (cw : c ≡ word s (exprsAt + exprRow * e + 16)) (r : Bool) (h : r ≡ fieldsFit s e sort a b c) where
   pub fields-fail : r ≡ false → false ≡ rowFits s e
   unfolding rowFits sortOf
   fields-fail f = rw (← sw, ← aw, ← bw, ← cw, ← h, f)
 
-  pub fields-pass : r ≡ true → (from to : ℕ) → from ≡ word s (exprsAt + 20 * e) → to ≡ word s (exprsAt + 20 * e + 20) → (q : Bool) → q ≡ allFrom (itemFits s e sort) from to → q ≡ rowFits s e
+  pub fields-pass : r ≡ true → (from to : ℕ) → from ≡ word s (exprsAt + exprRow * e) → to ≡ word s (exprsAt + exprRow * e + 20) → (q : Bool) → q ≡ allFrom (itemFits s e sort) from to → q ≡ rowFits s e
   unfolding rowFits sortOf firstItem
   fields-pass f from to fw tw q n =
-      let next : exprsAt + 20 * (e + 1) ≡ exprsAt + 20 * e + 20 = omega arith in
+      let next : exprsAt + exprRow * (e + 1) ≡ exprsAt + exprRow * e + 20 = omega arith in
       rw (← sw, ← aw, ← bw, ← cw, ← h, f, next, ← fw, ← tw) n
 
 -- where the next row's items begin
-pub next-first : (s : List ℕ) (e to : ℕ) → to ≡ word s (exprsAt + 20 * e + 20) → to ≡ firstItem s (e + 1)
+pub next-first : (s : List ℕ) (e to : ℕ) → to ≡ word s (exprsAt + exprRow * e + 20) → to ≡ firstItem s (e + 1)
 unfolding firstItem
-next-first s e to h = let next : exprsAt + 20 * e + 20 ≡ exprsAt + 20 * (e + 1) = omega arith in h ∙ ap (word s) next
+next-first s e to h = let next : exprsAt + exprRow * e + 20 ≡ exprsAt + exprRow * (e + 1) = omega arith in h ∙ ap (word s) next

@@ -8,7 +8,7 @@ use native.Mathlib.Numerals.{add-one}
 use native.Mathlib.Omega.{arith}
 use lib.ListN.{length}
 use Rattle.words.specs.Words.{word}
-use Rattle.layout.specs.Layout.{exprsAt, scopesAt, firstsAt, enteredAt, referencesAt, itemLimit, nameLimit, referenceLimit}
+use Rattle.layout.specs.Layout.{itemLimit, nameLimit, referenceLimit, exprRow, scopeRow, exprsAt, scopesAt, enteredAt, firstsAt, referencesAt}
 use Rattle.layout.specs.Exprs.{firstItem}
 use Rattle.layout.specs.Keeps.{firstReference, firstEntered}
 use Rattle.soundness.specs.Sound.{allTo, ascends, exprFits, nameFits, rowFits, exprsFit, scopeFits, scopesFit, useFits, keptFits}
@@ -34,7 +34,7 @@ module _ (s : List ℕ) (at stride : ℕ) where
       omega arith
 
 -- ---- expressions
-module _ (s : List ℕ) (c : Counts) (h : Taken s c) (r : Bool) (f : r ≡ ascends (λ i. word s (exprsAt + 20 * i)) (c .exprs) itemLimit) where
+module _ (s : List ℕ) (c : Counts) (h : Taken s c) (r : Bool) (f : r ≡ ascends (λ i. word s (exprsAt + exprRow * i)) (c .exprs) itemLimit) where
   pub items-fall : r ≡ false → false ≡ exprsFit s
   unfolding exprsFit firstItem
   items-fall e = rw (← h .exprs, ← f, e)
@@ -52,20 +52,20 @@ pub items-within : (s : List ℕ) (n e : ℕ) → ascends (firstItem s) n itemLi
 items-within s n e a l to h = rw h (below-limit (firstItem s) n itemLimit a (e + 1) (omega arith))
 
 -- ---- scopes
-module _ (s : List ℕ) (c : Counts) (h : Taken s c) (r : Bool) (f : r ≡ ascends (λ i. word s (scopesAt + 12 * i)) (c .scopes) nameLimit) where
+module _ (s : List ℕ) (c : Counts) (h : Taken s c) (r : Bool) (f : r ≡ ascends (λ i. word s (scopesAt + scopeRow * i)) (c .scopes) nameLimit) where
   pub entered-fall : r ≡ false → false ≡ scopesFit s
   unfolding scopesFit firstEntered
   entered-fall e = rw (← h .scopes, ← f, e)
 
-  pub entered-within : r ≡ true → (n : ℕ) → n ≡ word s (scopesAt + 12 * c .scopes) → n ≤ nameLimit
-  entered-within e n w = rw w (below-limit (λ i. word s (scopesAt + 12 * i)) (c .scopes) nameLimit (rw (← f) e) (c .scopes) (omega arith))
+  pub entered-within : r ≡ true → (n : ℕ) → n ≡ word s (scopesAt + scopeRow * c .scopes) → n ≤ nameLimit
+  entered-within e n w = rw w (below-limit (λ i. word s (scopesAt + scopeRow * i)) (c .scopes) nameLimit (rw (← f) e) (c .scopes) (omega arith))
 
   module _ (e : r ≡ true) (q : Bool) (g : q ≡ allTo (scopeFits s) (c .scopes)) where
     pub scopes-fail : q ≡ false → false ≡ scopesFit s
     unfolding scopesFit firstEntered
     scopes-fail k = rw (← h .scopes, ← f, e, ← g, k)
 
-    pub entered-decide : q ≡ true → (n : ℕ) → n ≡ word s (scopesAt + 12 * c .scopes) → (p : Bool) → p ≡ allTo (λ j. nameFits s (word s (enteredAt + 4 * j))) n → p ≡ scopesFit s
+    pub entered-decide : q ≡ true → (n : ℕ) → n ≡ word s (scopesAt + scopeRow * c .scopes) → (p : Bool) → p ≡ allTo (λ j. nameFits s (word s (enteredAt + 4 * j))) n → p ≡ scopesFit s
     unfolding scopesFit firstEntered
     entered-decide k n w p t = rw (← h .scopes, ← f, e, ← g, k, ← w) t
 

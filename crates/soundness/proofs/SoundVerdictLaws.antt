@@ -8,7 +8,7 @@ use lib.ListN.{length, getD}
 use borrow.Author.Tests.{lt-ltb, le-ltb, ne-eqb}
 use Rattle.words.specs.Words.{word}
 use Rattle.words.proofs.WordLaws.{word-bytes}
-use Rattle.layout.specs.Layout.{storeBytes, Long, exprCount}
+use Rattle.layout.specs.Layout.{exprCount, exprsAt, scopesAt, firstsAt, storeBytes, Long}
 use Rattle.layout.specs.Exprs.{firstItem}
 use Rattle.layout.specs.Keeps.{firstReference, firstEntered}
 use Rattle.soundness.specs.Sound.{allTo, ascends, countsFit, entryFits, exprsFit, namesFit, diagnosticsFit, scopesFit, keptFits, sound, conditionOf}
@@ -50,9 +50,9 @@ module _ (s : List ℕ) (long : Long s) (zero : (i : ℕ) → getD s i 0 ≡ 0) 
         word-zero 20 (omega arith),
         word-zero 24 (omega arith),
         word-zero 28 (omega arith),
-        word-zero 64 (omega arith),
-        word-zero 2441300 (omega arith),
-        word-zero 2506848 (omega arith),
+        word-zero exprsAt (omega arith),
+        word-zero scopesAt (omega arith),
+        word-zero firstsAt (omega arith),
       )
 
   pub zeros-unloaded : verdict (conditionOf s) ≡ Unloaded

@@ -7,9 +7,10 @@ use Prim.Native.Nat.{ℕ, _+_, _*_, _≤_, _<_}
 use lib.Dec.{eqb, leb}
 use Rattle.words.specs.Words.{word}
 use Rattle.spec.specs.Basics.{ExprId, NameId, if_then_else_}
-use Rattle.layout.specs.Layout.{exprCount, nameCount, diagnosticCount, lostCount, scopeCount, exprsAt, itemsAt, diagnosticsAt, usesAt, exprLimit, itemLimit, nameLimit, diagnosticLimit, scopeLimit}
+use Rattle.layout.specs.Layout.{exprLimit, itemLimit, nameLimit, diagnosticLimit, scopeLimit, exprRow, itemRow, diagnosticRow, useRow, exprCount, nameCount, diagnosticCount, lostCount, scopeCount, exprsAt, itemsAt, diagnosticsAt, usesAt}
 use Rattle.layout.specs.Exprs.{wide, firstItem, sortOf}
-use Rattle.soundness.specs.Sound.{textFits, tagFits, entryFits, exprsFit, nameRowFits, namesFit, diagnosticsFit, scopesFit}
+use Rattle.texts.specs.Fits.{textFits}
+use Rattle.soundness.specs.Sound.{tagFits, entryFits, exprsFit, nameRowFits, namesFit, diagnosticsFit, scopesFit}
 
 -- ---- rows
 -- a text in use; a float and an integer in their ranges; a sort that there is
@@ -21,7 +22,7 @@ fieldsCoded s sort a b =
     else leb sort 28
 
 unfoldable pub rowCoded : List ℕ → ExprId → Bool
-rowCoded s e = fieldsCoded s (sortOf s e) (word s (exprsAt + 20 * e + 8)) (word s (exprsAt + 20 * e + 12))
+rowCoded s e = fieldsCoded s (sortOf s e) (word s (exprsAt + exprRow * e + 8)) (word s (exprsAt + exprRow * e + 12))
 
 -- a literal part has a text in use
 unfoldable pub partCoded : List ℕ → ℕ → ℕ → Bool
@@ -29,7 +30,7 @@ partCoded s tag a = not (eqb tag 1) || textFits s a
 
 -- a tag that belongs to the sort
 unfoldable pub itemCoded : List ℕ → ℕ → ℕ → Bool
-itemCoded s sort j = tagFits sort (word s (itemsAt + 12 * j)) && partCoded s (word s (itemsAt + 12 * j)) (word s (itemsAt + 12 * j + 4))
+itemCoded s sort j = tagFits sort (word s (itemsAt + itemRow * j)) && partCoded s (word s (itemsAt + itemRow * j)) (word s (itemsAt + itemRow * j + 4))
 
 -- ---- a module
 -- its counts and its rows are what decoding takes them for
@@ -45,7 +46,7 @@ pub record Coded (s : List ℕ) : Type 0 where
   pub rows : (e : ExprId) → e < word s exprCount → rowCoded s e ≡ true
   pub items : (e : ExprId) (j : ℕ) → e < word s exprCount → firstItem s e ≤ j → j < firstItem s (e + 1) → itemCoded s (sortOf s e) j ≡ true
   pub names : (x : NameId) → x < word s nameCount → nameRowFits s x ≡ true
-  pub diagnostics : (i : ℕ) → i < word s diagnosticCount → textFits s (word s (diagnosticsAt + 28 * i)) ≡ true
+  pub diagnostics : (i : ℕ) → i < word s diagnosticCount → textFits s (word s (diagnosticsAt + diagnosticRow * i)) ≡ true
 
 -- the module's part of a sound store
 pub record ModuleFits (s : List ℕ) : Type 0 where
@@ -62,4 +63,4 @@ pub record ModuleFits (s : List ℕ) : Type 0 where
 pub record ScopesFit (s : List ℕ) : Type 0 where
   pub few : word s scopeCount ≤ scopeLimit
   pub scopes : scopesFit s ≡ true
-  pub placed : (e : ExprId) → e < word s exprCount → word s (usesAt + 8 * e) ≤ word s scopeCount
+  pub placed : (e : ExprId) → e < word s exprCount → word s (usesAt + useRow * e) ≤ word s scopeCount

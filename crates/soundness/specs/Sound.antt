@@ -1,5 +1,6 @@
--- "22 store unsound: a count over its limit, a number outside the list that docs/STORE.md gives for it, a parent scope not numbered below its child, or a child
--- expression not numbered below its parent." Of any bytes, by the words of the rows in use.
+-- docs/RULES.md, "The condition of a store": "22 store unsound: a count over its limit, a number outside the list that
+-- docs/STORE.md gives for it, a parent scope not numbered below its child, or a child expression not numbered below its
+-- parent." Of any bytes, by the words of the rows in use.
 use mathlib.Core.Bool.{Bool, true, false, _&&_, _||_, not}
 use mathlib.Core.List.{List}
 use Prim.Native.Nat.{ℕ, zero, suc, _+_, _*_}
@@ -8,9 +9,10 @@ use lib.Dec.{eqb, leb, ltb}
 use Rattle.words.specs.Words.{word}
 use Rattle.spec.specs.Basics.{ExprId, NameId, ScopeId, if_then_else_}
 use Rattle.spec.specs.Calls.{Condition}
-use Rattle.layout.specs.Layout.{storeBytes, absent, exprCount, nameCount, diagnosticCount, lostCount, entryPlace, scopeCount, spentPlace, textsPlace, exprsAt, itemsAt, namesAt, diagnosticsAt, usesAt, enteredAt, scopesAt, referencesAt, textsAt, exprLimit, itemLimit, nameLimit, diagnosticLimit, scopeLimit, referenceLimit, roomLimit}
+use Rattle.layout.specs.Layout.{exprLimit, itemLimit, nameLimit, diagnosticLimit, scopeLimit, referenceLimit, roomLimit, loadedTextLimit, exprRow, itemRow, nameRow, diagnosticRow, useRow, scopeRow, exprCount, nameCount, diagnosticCount, lostCount, entryPlace, scopeCount, spentPlace, textsPlace, exprsAt, itemsAt, namesAt, diagnosticsAt, usesAt, scopesAt, enteredAt, referencesAt, storeBytes}
 use Rattle.layout.specs.Exprs.{wide, firstItem, sortOf}
 use Rattle.layout.specs.Keeps.{firstEntered, firstReference}
+use Rattle.texts.specs.Fits.{textFits}
 
 -- whether all of 0, 1, .., n - 1 pass
 unfoldable pub allTo : (ℕ → Bool) → ℕ → Bool
@@ -26,10 +28,7 @@ unfoldable pub ascends : (ℕ → ℕ) → ℕ → ℕ → Bool
 ascends first n limit = eqb (first 0) 0 && (allTo (λ i. leb (first i) (first (i + 1))) n && leb (first n) limit)
 
 -- ---- numbers
--- the mark is the empty text; any other lies within the bytes in use
-unfoldable pub textFits : List ℕ → ℕ → Bool
-textFits s k = eqb k absent || leb (k + 4 + word s (textsAt + k)) (word s textsPlace)
-
+-- a text: the mark, or one within the bytes in use (`textFits`)
 unfoldable pub exprFits : List ℕ → ℕ → Bool
 exprFits s e = ltb e (word s exprCount)
 
@@ -40,7 +39,7 @@ nameFits s x = ltb x (word s nameCount)
 unfoldable pub countsFit : List ℕ → Bool
 countsFit s =
     leb (word s exprCount) exprLimit && (leb (word s nameCount) nameLimit && (leb (word s diagnosticCount) diagnosticLimit && (leb (word s lostCount) diagnosticLimit
-    && (leb (word s scopeCount) scopeLimit && (leb (word s spentPlace) roomLimit && leb (word s textsPlace) (745472 + 5 * word s spentPlace))))))
+    && (leb (word s scopeCount) scopeLimit && (leb (word s spentPlace) roomLimit && leb (word s textsPlace) (loadedTextLimit + 5 * word s spentPlace))))))
 
 unfoldable pub entryFits : List ℕ → Bool
 entryFits s = eqb (word s exprCount) 0 || exprFits s (word s entryPlace)
@@ -99,12 +98,12 @@ numbersFit s e tag a b =
 
 unfoldable pub itemFits : List ℕ → ExprId → ℕ → ℕ → Bool
 itemFits s e sort j =
-    let at = itemsAt + 12 * j in
+    let at = itemsAt + itemRow * j in
     tagFits sort (word s at) && numbersFit s e (word s at) (word s (at + 4)) (word s (at + 8))
 
 unfoldable pub rowFits : List ℕ → ExprId → Bool
 rowFits s e =
-    fieldsFit s e (sortOf s e) (word s (exprsAt + 20 * e + 8)) (word s (exprsAt + 20 * e + 12)) (word s (exprsAt + 20 * e + 16))
+    fieldsFit s e (sortOf s e) (word s (exprsAt + exprRow * e + 8)) (word s (exprsAt + exprRow * e + 12)) (word s (exprsAt + exprRow * e + 16))
     && allFrom (itemFits s e (sortOf s e)) (firstItem s e) (firstItem s (e + 1))
 
 unfoldable pub exprsFit : List ℕ → Bool
@@ -112,17 +111,17 @@ exprsFit s = ascends (firstItem s) (word s exprCount) itemLimit && allTo (rowFit
 
 -- ---- names and diagnostics
 unfoldable pub nameRowFits : List ℕ → NameId → Bool
-nameRowFits s x = textFits s (word s (namesAt + 8 * x)) && leb (word s (namesAt + 8 * x + 4)) 4
+nameRowFits s x = textFits s (word s (namesAt + nameRow * x)) && leb (word s (namesAt + nameRow * x + 4)) 4
 
 unfoldable pub namesFit : List ℕ → Bool
 namesFit s = allTo (nameRowFits s) (word s nameCount)
 
 unfoldable pub diagnosticsFit : List ℕ → Bool
-diagnosticsFit s = allTo (λ i. textFits s (word s (diagnosticsAt + 28 * i))) (word s diagnosticCount)
+diagnosticsFit s = allTo (λ i. textFits s (word s (diagnosticsAt + diagnosticRow * i))) (word s diagnosticCount)
 
 -- ---- scopes: 0 is no parent, and otherwise the parent is the number less one; a With alike
 unfoldable pub scopeFits : List ℕ → ScopeId → Bool
-scopeFits s i = leb (word s (scopesAt + 12 * i + 4)) i && leb (word s (scopesAt + 12 * i + 8)) (word s exprCount)
+scopeFits s i = leb (word s (scopesAt + scopeRow * i + 4)) i && leb (word s (scopesAt + scopeRow * i + 8)) (word s exprCount)
 
 unfoldable pub scopesFit : List ℕ → Bool
 scopesFit s =
@@ -131,7 +130,7 @@ scopesFit s =
 
 -- ---- the scope of each expression, kept answers, kept references
 unfoldable pub useFits : List ℕ → ExprId → Bool
-useFits s e = leb (word s (usesAt + 8 * e)) (word s scopeCount) && ltb (word s (usesAt + 8 * e + 4)) (24 + word s nameCount)
+useFits s e = leb (word s (usesAt + useRow * e)) (word s scopeCount) && ltb (word s (usesAt + useRow * e + 4)) (24 + word s nameCount)
 
 unfoldable pub keptFits : List ℕ → Bool
 keptFits s =

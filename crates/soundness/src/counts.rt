@@ -3,34 +3,21 @@ ghost use mathlib.Core.Path.{_≡_};
 ghost use Rattle.layout.specs.Layout.{Long};
 ghost use Rattle.soundness.specs.Sound.{countsFit, entryFits};
 ghost use Rattle.soundness.specs.SoundCounts.{Taken, Counted};
+use layout::tables::DIAGNOSTIC_COUNT;
+use layout::tables::DIAGNOSTIC_LIMIT;
+use layout::tables::ENTRY_PLACE;
+use layout::tables::EXPR_COUNT;
+use layout::tables::EXPR_LIMIT;
+use layout::tables::LOADED_TEXT_LIMIT;
+use layout::tables::LOST_COUNT;
+use layout::tables::NAME_COUNT;
+use layout::tables::NAME_LIMIT;
+use layout::tables::ROOM_LIMIT;
+use layout::tables::SCOPE_COUNT;
+use layout::tables::SCOPE_LIMIT;
+use layout::tables::SPENT_PLACE;
+use layout::tables::TEXTS_PLACE;
 use words::get32;
-
-// The header's places.
-pub const EXPR_COUNT: usize = 0;
-
-const NAME_COUNT: usize = 4;
-
-const DIAGNOSTIC_COUNT: usize = 8;
-
-const LOST_COUNT: usize = 12;
-
-const ENTRY: usize = 16;
-
-const SCOPE_COUNT: usize = 20;
-
-const SPENT: usize = 24;
-
-const TEXTS_USED: usize = 28;
-
-const EXPR_LIMIT: u32 = 16384;
-
-const NAME_LIMIT: u32 = 4096;
-
-const DIAGNOSTIC_LIMIT: u32 = 32768;
-
-const SCOPE_LIMIT: u32 = 4096;
-
-const ROOM_LIMIT: u32 = 8192;
 
 // What the rows' numbers are held against, read once: how many expressions, names,
 // diagnostics and scopes there are, and how many bytes of texts are in use.
@@ -51,7 +38,7 @@ pub fn counts_of(store: &[u8]) -> Counts
         names: get32(store, NAME_COUNT),
         diagnostics: get32(store, DIAGNOSTIC_COUNT),
         scopes: get32(store, SCOPE_COUNT),
-        texts: get32(store, TEXTS_USED),
+        texts: get32(store, TEXTS_PLACE),
     }
 }
 
@@ -62,14 +49,15 @@ pub fn counts_fit(store: &[u8], counts: Counts) -> bool
     ensures { λ r. ⌜ r ≡ countsFit (now (store .entry)) ⌝ }
 {
     let lost = get32(store, LOST_COUNT);
-    let spent = get32(store, SPENT);
+    let spent = get32(store, SPENT_PLACE);
     (counts.exprs <= EXPR_LIMIT)
         & ((counts.names <= NAME_LIMIT)
             & ((counts.diagnostics <= DIAGNOSTIC_LIMIT)
                 & ((lost <= DIAGNOSTIC_LIMIT)
                     & ((counts.scopes <= SCOPE_LIMIT)
                         & ((spent <= ROOM_LIMIT)
-                            & (counts.texts as usize <= 745472 + 5 * (spent as usize)))))))
+                            & (counts.texts as usize
+                                <= LOADED_TEXT_LIMIT + 5 * (spent as usize)))))))
 }
 
 // With no expression there is no entry.
@@ -77,5 +65,5 @@ pub fn entry_fits(store: &[u8], counts: Counts) -> bool
     requires { ⌜ Counted (now store) counts ⌝ }
     ensures { λ r. ⌜ r ≡ entryFits (now (store .entry)) ⌝ }
 {
-    (counts.exprs == 0) | (get32(store, ENTRY) < counts.exprs)
+    (counts.exprs == 0) | (get32(store, ENTRY_PLACE) < counts.exprs)
 }

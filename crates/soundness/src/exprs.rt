@@ -10,19 +10,18 @@ use crate::counts::Counts;
 use crate::fields::fields_fit;
 use crate::firsts::firsts_ascend;
 use crate::items::items_fit;
+use layout::tables::EXPR_ROW;
+use layout::tables::EXPRS;
+use layout::tables::ITEM_LIMIT;
 use module::ExprId;
 use words::get32;
-
-const EXPRS: usize = 64;
-
-const ITEM_LIMIT: u32 = 32768;
 
 // A row, and the items from its own first one to the next row's.
 fn row_fits(store: &[u8], counts: Counts, e: ExprId) -> bool
     requires { ⌜ Counted (now store) counts × ((e .0 < counts .exprs) × (ascends (firstItem (now store)) (counts .exprs) itemLimit ≡ true)) ⌝ }
     ensures { λ r. ⌜ r ≡ rowFits (now (store .entry)) (e .0) ⌝ }
 {
-    let at = EXPRS + 20 * (e.0 as usize);
+    let at = EXPRS + EXPR_ROW * (e.0 as usize);
     let sort = get32(store, at + 4);
     let a = get32(store, at + 8);
     let b = get32(store, at + 12);
@@ -59,5 +58,5 @@ pub fn exprs_fit(store: &[u8], counts: Counts) -> bool
     requires { ⌜ Counted (now store) counts ⌝ }
     ensures { λ r. ⌜ r ≡ exprsFit (now (store .entry)) ⌝ }
 {
-    firsts_ascend(store, EXPRS, 20, counts.exprs, ITEM_LIMIT) && rows_fit(store, counts)
+    firsts_ascend(store, EXPRS, EXPR_ROW, counts.exprs, ITEM_LIMIT) && rows_fit(store, counts)
 }

@@ -5,8 +5,8 @@ ghost use Rattle.layout.specs.Exprs.{wide};
 ghost use Rattle.soundness.specs.Sound.{fieldsFit};
 ghost use Rattle.soundness.specs.SoundCounts.{Counted};
 use crate::counts::Counts;
-use crate::texts::text_fits;
 use module::ExprId;
+use texts::text_fits;
 
 // The highest bits that a float may have, and the highest integer.
 const INFINITY: u64 = 9218868437227405312;
@@ -42,8 +42,8 @@ pub fn fields_fit(
         3 => (a < e.0) & ((b < e.0) & (c < e.0)),
         4 => wide_within(a, b, INFINITY),
         5 => wide_within(a, b, HIGHEST),
-        6 | 21 => text_fits(store, counts, a),
-        7 => text_fits(store, counts, a),
+        6 | 21 => text_fits(store, counts.texts, a),
+        7 => text_fits(store, counts.texts, a),
         9 | 11 | 13 | 15 | 22 | 24 => a < e.0,
         10 | 12 | 14 => (a < e.0) & (b < counts.names),
         17 => (a < e.0) & ((b < e.0) & ((1 <= c) & (c <= 15))),

@@ -5,11 +5,11 @@ ghost use Rattle.layout.specs.Layout.{itemLimit};
 ghost use Rattle.soundness.specs.Sound.{tagFits, numbersFit, itemFits, allFrom};
 ghost use Rattle.soundness.specs.SoundCounts.{Counted};
 use crate::counts::Counts;
-use crate::texts::text_fits;
+use layout::tables::ITEM_ROW;
+use layout::tables::ITEMS;
 use module::ExprId;
+use texts::text_fits;
 use words::get32;
-
-const ITEMS: usize = 524372;
 
 // Lambdas have pattern fields; a let and the two attribute sets have bindings, whose sources of
 // inherits are children; lists and attribute paths have children, and interpolations parts.
@@ -36,7 +36,7 @@ fn numbers_fit(store: &[u8], counts: Counts, e: ExprId, tag: u32, a: u32, b: u32
 {
     match tag {
         0 => a < e.0,
-        1 => text_fits(store, counts, a),
+        1 => text_fits(store, counts.texts, a),
         2 => true,
         3 => a < counts.names,
         4 => b < e.0,
@@ -49,7 +49,7 @@ fn item_fits(store: &[u8], counts: Counts, e: ExprId, sort: u32, j: u32) -> bool
     requires { ⌜ Counted (now store) counts × (j < itemLimit) ⌝ }
     ensures { λ r. ⌜ r ≡ itemFits (now (store .entry)) (e .0) sort j ⌝ }
 {
-    let at = ITEMS + 12 * (j as usize);
+    let at = ITEMS + ITEM_ROW * (j as usize);
     let tag = get32(store, at);
     if !tag_fits(sort, tag) {
         return false;

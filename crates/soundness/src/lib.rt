@@ -10,7 +10,6 @@ mod firsts;
 mod items;
 mod names;
 mod scopes;
-mod texts;
 mod uses;
 mod whole;
 

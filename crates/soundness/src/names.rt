@@ -2,25 +2,26 @@
 ghost use mathlib.Core.Path.{_≡_};
 ghost use Prim.Native.Nat.{_+_, _*_, _<_};
 ghost use Rattle.words.specs.Words.{word};
-ghost use Rattle.layout.specs.Layout.{diagnosticsAt};
-ghost use Rattle.soundness.specs.Sound.{textFits, nameRowFits, namesFit, diagnosticsFit};
+ghost use Rattle.layout.specs.Layout.{diagnosticRow, diagnosticsAt};
+ghost use Rattle.texts.specs.Fits.{textFits};
+ghost use Rattle.soundness.specs.Sound.{nameRowFits, namesFit, diagnosticsFit};
 ghost use Rattle.soundness.specs.SoundCounts.{Counted};
 use crate::counts::Counts;
-use crate::texts::text_fits;
+use layout::tables::DIAGNOSTIC_ROW;
+use layout::tables::DIAGNOSTICS;
+use layout::tables::NAME_ROW;
+use layout::tables::NAMES;
 use module::NameId;
+use texts::text_fits;
 use words::get32;
-
-const NAMES: usize = 917588;
-
-const DIAGNOSTICS: usize = 999508;
 
 fn name_row_fits(store: &[u8], counts: Counts, x: NameId) -> bool
     requires { ⌜ Counted (now store) counts × (x .0 < counts .names) ⌝ }
     ensures { λ r. ⌜ r ≡ nameRowFits (now (store .entry)) (x .0) ⌝ }
 {
-    let at = NAMES + 8 * (x.0 as usize);
+    let at = NAMES + NAME_ROW * (x.0 as usize);
     let kind = get32(store, at + 4);
-    text_fits(store, counts, get32(store, at)) & (kind <= 4)
+    text_fits(store, counts.texts, get32(store, at)) & (kind <= 4)
 }
 
 pub fn names_fit(store: &[u8], counts: Counts) -> bool
@@ -40,9 +41,13 @@ pub fn names_fit(store: &[u8], counts: Counts) -> bool
 
 fn diagnostic_fits(store: &[u8], counts: Counts, i: u32) -> bool
     requires { ⌜ Counted (now store) counts × (i < counts .diagnostics) ⌝ }
-    ensures { λ r. ⌜ r ≡ textFits (now (store .entry)) (word (now (store .entry)) (diagnosticsAt + 28 * i)) ⌝ }
+    ensures { λ r. ⌜ r ≡ textFits (now (store .entry)) (word (now (store .entry)) (diagnosticsAt + diagnosticRow * i)) ⌝ }
 {
-    text_fits(store, counts, get32(store, DIAGNOSTICS + 28 * (i as usize)))
+    text_fits(
+        store,
+        counts.texts,
+        get32(store, DIAGNOSTICS + DIAGNOSTIC_ROW * (i as usize)),
+    )
 }
 
 pub fn diagnostics_fit(store: &[u8], counts: Counts) -> bool

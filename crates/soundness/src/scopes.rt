@@ -10,21 +10,19 @@ ghost use Rattle.soundness.specs.Sound.{allTo, nameFits, scopeFits, scop
 ghost use Rattle.soundness.specs.SoundCounts.{Counted};
 use crate::counts::Counts;
 use crate::firsts::firsts_ascend;
+use layout::tables::ENTERED;
+use layout::tables::NAME_LIMIT;
+use layout::tables::SCOPE_ROW;
+use layout::tables::SCOPES;
 use module::ScopeId;
 use words::get32;
-
-const SCOPES: usize = 2441300;
-
-const ENTERED: usize = 2490464;
-
-const ENTERED_LIMIT: u32 = 4096;
 
 // Parent and With stand one too high, with 0 for none.
 fn scope_fits(store: &[u8], counts: Counts, s: ScopeId) -> bool
     requires { ⌜ Counted (now store) counts × (s .0 < counts .scopes) ⌝ }
     ensures { λ r. ⌜ r ≡ scopeFits (now (store .entry)) (s .0) ⌝ }
 {
-    let at = SCOPES + 12 * (s.0 as usize);
+    let at = SCOPES + SCOPE_ROW * (s.0 as usize);
     (get32(store, at + 4) <= s.0) & (get32(store, at + 8) <= counts.exprs)
 }
 
@@ -63,9 +61,9 @@ pub fn scopes_fit(store: &[u8], counts: Counts) -> bool
     ensures { λ r. ⌜ r ≡ scopesFit (now (store .entry)) ⌝ }
 {
     let n = counts.scopes;
-    if !firsts_ascend(store, SCOPES, 12, n, ENTERED_LIMIT) {
+    if !firsts_ascend(store, SCOPES, SCOPE_ROW, n, NAME_LIMIT) {
         return false;
     }
-    let entered = get32(store, SCOPES + 12 * (n as usize));
+    let entered = get32(store, SCOPES + SCOPE_ROW * (n as usize));
     scope_rows_fit(store, counts) && entered_fit(store, counts, entered)
 }

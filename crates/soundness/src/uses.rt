@@ -7,23 +7,20 @@ ghost use Rattle.soundness.specs.Sound.{allTo, exprFits, useFits, keptFi
 ghost use Rattle.soundness.specs.SoundCounts.{Counted};
 use crate::counts::Counts;
 use crate::firsts::firsts_ascend;
+use layout::tables::FIRSTS;
+use layout::tables::REFERENCE_LIMIT;
+use layout::tables::REFERENCES;
+use layout::tables::USE_ROW;
+use layout::tables::USES;
 use module::ExprId;
 use words::get32;
-
-const USES: usize = 2310228;
-
-const FIRSTS: usize = 2506848;
-
-const REFERENCES: usize = 2523236;
-
-const REFERENCE_LIMIT: u32 = 16384;
 
 // A scope stands one too high, with 0 for none; an answer is a name from 24 on.
 fn use_fits(store: &[u8], counts: Counts, e: ExprId) -> bool
     requires { ⌜ Counted (now store) counts × (e .0 < counts .exprs) ⌝ }
     ensures { λ r. ⌜ r ≡ useFits (now (store .entry)) (e .0) ⌝ }
 {
-    let at = USES + 8 * (e.0 as usize);
+    let at = USES + USE_ROW * (e.0 as usize);
     (get32(store, at) <= counts.scopes) & (get32(store, at + 4) < 24 + counts.names)
 }
 

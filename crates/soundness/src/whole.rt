@@ -1,13 +1,11 @@
-// "22 store unsound: a count over its limit, a number outside the list that docs/STORE.md gives for
-// it, a parent scope not numbered below its child, or a child expression not numbered below its
-// parent." No row or item is gone over more than twice, so the cost is linear in the store's length for
-// any bytes.
+// docs/RULES.md, "The condition of a store": "22 store unsound: a count over its limit, a number outside the list that
+// docs/STORE.md gives for it, a parent scope not numbered below its child, or a child expression not numbered below its
+// parent." No row or item is gone over more than twice, so the cost is linear in the store's length for any bytes.
 ghost use mathlib.Core.Path.{_≡_};
 ghost use Rattle.layout.specs.Layout.{Long};
 ghost use Rattle.soundness.specs.Sound.{sound, conditionOf};
 ghost use Rattle.soundness.specs.Verdict.{verdict};
 use crate::conditions::Condition;
-use crate::counts::EXPR_COUNT;
 use crate::counts::counts_fit;
 use crate::counts::counts_of;
 use crate::counts::entry_fits;
@@ -16,9 +14,9 @@ use crate::names::diagnostics_fit;
 use crate::names::names_fit;
 use crate::scopes::scopes_fit;
 use crate::uses::kept_fits;
+use layout::tables::EXPR_COUNT;
+use layout::tables::STORE_BYTES;
 use words::get32;
-
-const STORE_BYTES: usize = 3948672;
 
 pub fn sound(store: &[u8]) -> bool
     requires { ⌜ Long (now store) ⌝ }

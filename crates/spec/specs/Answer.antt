@@ -1,4 +1,5 @@
--- "Scopes and answers": what a name means where it is used, written from the Nix Reference Manual. This page is what demand 2 is proved against.
+-- docs/RULES.md, "Scopes and answers" ("Answers", "Kept answers and references"): what a name means where it is used,
+-- written from the Nix Reference Manual. This page is what demand 2 is proved against.
 use mathlib.Core.Bool.{Bool, true, false}
 use mathlib.Core.List.{List, [], _∷_, _++_}
 use mathlib.Core.Option.{Option, none, some}
@@ -10,7 +11,7 @@ use Rattle.spec.specs.Basics.{Text, ExprId, NameId, ScopeId, bytes, if_t
 use Rattle.spec.specs.Module.{Expr, missing, apply, ifThenElse, literal, lambda, letIn, list, binOp, attrSet, unaryOp, reference, select, hasAttr, withIn, assertIn, stringInterpolation, pathInterpolation, Made, Module}
 use Rattle.spec.specs.Scopes.{ScopeKind, definitions, withExpr, Scope, Scopes, exprAt, nameAt}
 
--- Document 01's answers 0 to 3.
+-- Document 01's answers 0 to 3 (docs/RULES.md, "Answers").
 pub data Answer : Type 0 where
   unresolved : Answer
   definition : NameId → Answer

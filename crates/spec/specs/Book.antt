@@ -1,5 +1,5 @@
--- "Scopes and answers": the plain book (document 01's term), which measures demand 3. It keeps no answers: afresh, everything is worked out from the
--- texts as they then read, over the scopes as loaded.
+-- docs/RULES.md, "Scopes and answers" ("The plain book"): the plain book (document 01's term), which measures demand 3.
+-- It keeps no answers: afresh, everything is worked out from the texts as they then read, over the scopes as loaded.
 use mathlib.Core.Bool.{Bool, true, false}
 use mathlib.Core.List.{List, [], _∷_}
 use Prim.Native.Nat.{ℕ}

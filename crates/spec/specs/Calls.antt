@@ -1,4 +1,5 @@
--- "Refused because of the state", and 8: asking about a Reference or a name, changing the text of either, and what each call comes to.
+-- docs/RULES.md, "Refused because of the state", and 8 ("A text refused"): asking about a Reference or a name, changing
+-- the text of either, and what each call comes to.
 use mathlib.Core.Bool.{Bool, true, false, _||_, _&&_, not}
 use mathlib.Core.List.{List, [], _∷_}
 use mathlib.Core.Option.{Option, none, some}
@@ -97,7 +98,8 @@ abbrev pub setPlaces : Text → List Place → Module → Module
 setPlaces t [] m = m
 setPlaces t (p ∷ ps) m = setPlaces t ps (setPlace t p m)
 
--- the change room (document 01's term) that is then spent: each place whose text was another costs the length of the new one
+-- the change room (document 01's term; docs/RULES.md, "The change room") that is then spent: each place whose text was
+-- another costs the length of the new one
 abbrev pub spentAt : Module → Text → ℕ → List Place → ℕ
 spentAt m t spent [] = spent
 spentAt m t spent (p ∷ ps) = spentAt m t (if equalb (textAt m p) t then spent else spent + length t) ps

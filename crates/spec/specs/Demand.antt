@@ -1,4 +1,6 @@
--- Demand 3, as a statement about every list of calls: `Demand3` says it, and its proof comes with the code. Beside each clause the sentence that it is.
+-- docs/RULES.md, "Demand 3" and "What may move": demand 3 as a statement about every list of calls, `Demand3`. Beside
+-- each clause stands the sentence that it is. It is proved in proofs/ (Demand3.antt) of any store whose calls keep
+-- their promises, and in the crate lang_ast (proofs/Calls.antt) of the exported calls.
 use mathlib.Core.Path.{_≡_}
 use mathlib.Core.Logic.{_≢_}
 use mathlib.Core.Bool.{Bool, true, false, _||_}

@@ -1,5 +1,6 @@
--- The marked examples: from the bytes of a sheet through all definitions to exactly what document 01 says of them, with the four counts.
--- The sheets are those of `oracle tree`; that of `x: x` is document 01's.
+-- The marked examples (docs/RULES.md, "Followed examples"): from the bytes of a sheet through all definitions to
+-- exactly what document 01 says of them, with the four counts. The sheets are those of `oracle tree`; that of `x: x` is
+-- document 01's.
 use mathlib.Core.Path.{_≡_, refl}
 use mathlib.Core.Bool.{false}
 use mathlib.Core.List.{List, [], _∷_, map}

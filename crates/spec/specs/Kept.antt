@@ -1,5 +1,6 @@
--- What a store keeps: the module and its scopes, and beside them every Reference's answer and every name's references, so that asking need not search. What a
--- load leaves, and what a call makes of a store, whoever made it.
+-- docs/RULES.md, "Kept answers and references": what a store keeps, the module and its scopes, and beside them every
+-- Reference's answer and every name's references, so that asking need not search. What a load leaves, and what a call
+-- makes of a store, whoever made it.
 use mathlib.Core.Bool.{Bool, true, false, _||_, _&&_, not}
 use mathlib.Core.List.{List, [], _∷_}
 use mathlib.Core.Option.{Option, none, some}

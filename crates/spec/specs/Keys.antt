@@ -1,4 +1,5 @@
--- "Lowering": a node and its parts, and which key an attribute is. The functions of ast_utils.rs, under their names.
+-- docs/RULES.md, "Lowering" ("Keys"): a node and its parts, and which key an attribute is. The functions of
+-- ast_utils.rs, under their names.
 use mathlib.Core.Bool.{true, false}
 use mathlib.Core.List.{List, [], _∷_}
 use mathlib.Core.Option.{Option, none, some}

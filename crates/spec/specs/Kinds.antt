@@ -1,4 +1,5 @@
--- The 33 kinds of node: the places of their kids, their flags and their texts.
+-- docs/RULES.md, "Entry: the sheet" ("Kinds", "Places"): the 33 kinds of node, the places of their kids, their flags
+-- and their texts.
 use mathlib.Core.Bool.{Bool, _&&_, _||_}
 use mathlib.Core.List.{List, [], _∷_}
 use mathlib.Core.Option.{Option, none, some}

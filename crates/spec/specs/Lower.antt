@@ -1,4 +1,4 @@
--- "Lowering": from nodes to expressions. `impl LowerCtx` of lower.rs, in its order.
+-- docs/RULES.md, "Lowering" ("From nodes to expressions"): `impl LowerCtx` of lower.rs, in its order.
 use mathlib.Core.Bool.{Bool, false, _||_}
 use mathlib.Core.List.{List, [], _∷_}
 use mathlib.Core.Option.{Option, none, some}

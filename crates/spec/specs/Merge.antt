@@ -1,4 +1,5 @@
--- "Lowering": how the entries of a set or a let are merged. `impl MergingSet` of lower.rs, in its order.
+-- docs/RULES.md, "Lowering" ("Merging", "Inherited attributes", "Finishing"): how the entries of a set or a let are
+-- merged. `impl MergingSet` of lower.rs, in its order.
 use mathlib.Core.Bool.{Bool, false, _&&_}
 use mathlib.Core.List.{List, [], _∷_}
 use mathlib.Core.Option.{Option, none, some}

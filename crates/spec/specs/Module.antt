@@ -1,4 +1,4 @@
--- "Lowering": what a module is. Types of lib.rs, under their names there.
+-- docs/RULES.md, "Lowering" ("The module"): what a module is. Types of lib.rs, under their names there.
 use mathlib.Core.Bool.{Bool, false, _&&_}
 use mathlib.Core.List.{List, [], _∷_}
 use mathlib.Core.Option.{Option, none, some}
@@ -90,7 +90,7 @@ pub record Module : Type 0 where
   pub exprs : List Made
   pub names : List Name
   pub diagnostics : List DuplicateKey
-  -- the lost list (document 01's term)
+  -- the lost list (document 01's term; docs/RULES.md, "Diagnostics and the lost list")
   pub lost : List Pointer
 
 -- ---- The source map. The number-to-pointer side is in the lists; the pointer-to-number side "keeps the last writer", and numbers are given in the order of writing.

@@ -1,5 +1,5 @@
--- "Scopes and answers": the scopes of a module, numbered as `ModuleScopes::new` allocates them, with the names entered in each, and the scope of
--- every expression that is walked.
+-- docs/RULES.md, "Scopes and answers" ("Scopes", "Held names"): the scopes of a module, numbered as `ModuleScopes::new`
+-- allocates them, with the names entered in each, and the scope of every expression that is walked.
 use mathlib.Core.Bool.{Bool, true, false, _||_}
 use mathlib.Core.List.{List, [], _∷_, _++_}
 use mathlib.Core.Option.{Option, none, some}

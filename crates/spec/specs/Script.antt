@@ -1,5 +1,6 @@
--- A script of calls on `x@{x}: x`, computed by the book and by what a store keeps: the hidden name comes back, a definition goes before a builtin, the
--- checks have their order, and the change room ends at 8,192.
+-- docs/RULES.md, "Followed examples": a script of calls on `x@{x}: x`, computed by the book and by what a store keeps.
+-- The hidden name comes back, a definition goes before a builtin, the checks have their order, and the change room ends
+-- at 8,192.
 use mathlib.Core.Path.{_≡_, refl}
 use mathlib.Core.List.{List, [], _∷_, _++_, map}
 use Prim.Native.Nat.{ℕ, zero, suc}

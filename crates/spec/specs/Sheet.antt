@@ -1,4 +1,4 @@
--- "Entry: the sheet", and refusals 1, 2 and 3: from bytes to nodes.
+-- docs/RULES.md, "Entry: the sheet", and refusals 1, 2 and 3 ("Lines refused"): from bytes to nodes.
 -- A sheet (document 01's term) is lines that end in byte 10: first `nodes=`, then six for each node.
 use mathlib.Core.Bool.{Bool, true, false, _&&_, not}
 use mathlib.Core.List.{List, [], _∷_}

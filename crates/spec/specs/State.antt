@@ -1,4 +1,5 @@
--- "Lowering": the state that it works on, and its steps. Expressions and names are numbered from 0 as they are allocated.
+-- docs/RULES.md, "Lowering" ("Numbers", "Merging"): the state that it works on, and its steps. Expressions and names
+-- are numbered from 0 as they are allocated.
 use mathlib.Core.List.{List, [], _∷_, _++_}
 use mathlib.Core.Option.{Option, none, some}
 use Prim.Native.Nat.{ℕ}

@@ -1,4 +1,4 @@
--- Refusals 4 to 7: a depth-first walk from node 0, kids in order. The first met decides.
+-- docs/RULES.md, "The walk": refusals 4 to 7, by a depth-first walk from node 0, kids in order. The first met decides.
 use mathlib.Core.Bool.{Bool, true, false, _&&_}
 use mathlib.Core.List.{List, [], _∷_}
 use mathlib.Core.Option.{Option, none, some}

@@ -1,6 +1,6 @@
 -- What is said of a module's bytes beside what they say: it stays where nothing of its part is written. Assumes nothing.
 use mathlib.Core.Path.{_≡_, refl, sym, _∙_}
-use mathlib.Core.Bool.{Bool, true, false, _&&_}
+use mathlib.Core.Bool.{Bool, true, false, _&&_, and-eq-true-iff}
 use mathlib.Core.List.{List, [], _∷_}
 use Prim.Native.Nat.{ℕ, zero, suc, _+_, _*_, _≤_, _<_}
 use native.Mathlib.Numerals.{add-one}
@@ -9,14 +9,14 @@ use lib.Dec.{leb}
 use borrow.Author.Tests.{leb-true, leb-false}
 use Rattle.words.specs.Words.{word}
 use Rattle.spec.specs.Basics.{ExprId, NameId}
-use Rattle.spec.proofs.Subtrees.{and-true}
-use Rattle.layout.specs.Layout.{textsAt, exprCount, nameCount, diagnosticCount, lostCount, waitingCount, exprsAt, itemsAt, namesAt, diagnosticsAt, waitingAt, exprLimit, itemLimit, nameLimit, diagnosticLimit, waitingLimit}
+use Rattle.layout.specs.Layout.{exprLimit, itemLimit, nameLimit, diagnosticLimit, waitingLimit, exprRow, itemRow, nameRow, diagnosticRow, exprCount, nameCount, diagnosticCount, lostCount, waitingCount, exprsAt, exprPointersAt, itemsAt, namesAt, namePointersAt, diagnosticsAt, lostAt, waitingAt, setsAt, textsAt}
 use Rattle.layout.specs.Rows.{cap}
 use Rattle.layout.specs.Changes.{Range, Wrote, Still}
 use Rattle.layout.specs.Exprs.{firstItem, sortOf}
 use Rattle.layout.proofs.RowLaws.{cap-lim}
 use Rattle.layout.proofs.Frames.{Same, apart, same-on, number-kept, word-still}
-use Rattle.soundness.specs.Sound.{textFits, nameRowFits}
+use Rattle.texts.specs.Fits.{textFits}
+use Rattle.soundness.specs.Sound.{nameRowFits}
 use Rattle.soundness.specs.Coded.{fieldsCoded, rowCoded, partCoded, itemCoded, Coded}
 use Rattle.store.specs.Work.{waitCoded, Fine}
 
@@ -36,7 +36,7 @@ pub record NamesCoded (s : List ℕ) : Type 0 where
 pub record DiagnosticsCoded (s : List ℕ) : Type 0 where
   pub few : word s diagnosticCount ≤ diagnosticLimit
   pub fewLost : word s lostCount ≤ diagnosticLimit
-  pub rows : (i : ℕ) → i < word s diagnosticCount → textFits s (word s (diagnosticsAt + 28 * i)) ≡ true
+  pub rows : (i : ℕ) → i < word s diagnosticCount → textFits s (word s (diagnosticsAt + diagnosticRow * i)) ≡ true
 
 abbrev pub WaitsCoded : List ℕ → Type 0
 WaitsCoded s = (i : ℕ) → i < cap (word s waitingCount) waitingLimit → waitCoded s i ≡ true
@@ -107,48 +107,48 @@ module _ (s t : List ℕ) (still : Still s t) where
   unfolding partCoded
   part-still tag a = rw (fits-still a)
 
-  pub row-coded-same : (e : ExprId) → Same s t (exprsAt + 20 * e + 4) (exprsAt + 20 * e + 16) → rowCoded t e ≡ rowCoded s e
+  pub row-coded-same : (e : ExprId) → Same s t (exprsAt + exprRow * e + 4) (exprsAt + exprRow * e + 16) → rowCoded t e ≡ rowCoded s e
   unfolding rowCoded sortOf
   row-coded-same e w =
       rw (
-        w (exprsAt + 20 * e + 4) (omega arith) (omega arith),
-        w (exprsAt + 20 * e + 8) (omega arith) (omega arith),
-        w (exprsAt + 20 * e + 12) (omega arith) (omega arith),
-        fields-still (word s (exprsAt + 20 * e + 4)) (word s (exprsAt + 20 * e + 8)) (word s (exprsAt + 20 * e + 12)),
+        w (exprsAt + exprRow * e + 4) (omega arith) (omega arith),
+        w (exprsAt + exprRow * e + 8) (omega arith) (omega arith),
+        w (exprsAt + exprRow * e + 12) (omega arith) (omega arith),
+        fields-still (word s (exprsAt + exprRow * e + 4)) (word s (exprsAt + exprRow * e + 8)) (word s (exprsAt + exprRow * e + 12)),
       )
 
-  pub item-coded-same : (sort j : ℕ) → Same s t (itemsAt + 12 * j) (itemsAt + 12 * j + 8) → itemCoded t sort j ≡ itemCoded s sort j
+  pub item-coded-same : (sort j : ℕ) → Same s t (itemsAt + itemRow * j) (itemsAt + itemRow * j + 8) → itemCoded t sort j ≡ itemCoded s sort j
   unfolding itemCoded
   item-coded-same sort j w =
       rw (
-        w (itemsAt + 12 * j) (omega arith) (omega arith),
-        w (itemsAt + 12 * j + 4) (omega arith) (omega arith),
-        part-still (word s (itemsAt + 12 * j)) (word s (itemsAt + 12 * j + 4)),
+        w (itemsAt + itemRow * j) (omega arith) (omega arith),
+        w (itemsAt + itemRow * j + 4) (omega arith) (omega arith),
+        part-still (word s (itemsAt + itemRow * j)) (word s (itemsAt + itemRow * j + 4)),
       )
 
-  pub name-coded-same : (x : NameId) → Same s t (namesAt + 8 * x) (namesAt + 8 * x + 8) → nameRowFits t x ≡ nameRowFits s x
+  pub name-coded-same : (x : NameId) → Same s t (namesAt + nameRow * x) (namesAt + nameRow * x + 8) → nameRowFits t x ≡ nameRowFits s x
   unfolding nameRowFits
-  name-coded-same x w = rw (w (namesAt + 8 * x) (omega arith) (omega arith), w (namesAt + 8 * x + 4) (omega arith) (omega arith), fits-still (word s (namesAt + 8 * x)))
+  name-coded-same x w = rw (w (namesAt + nameRow * x) (omega arith) (omega arith), w (namesAt + nameRow * x + 4) (omega arith) (omega arith), fits-still (word s (namesAt + nameRow * x)))
 
-  pub wait-coded-same : (i : ℕ) → Same s t (waitingAt + 12 * i) (waitingAt + 12 * i + 8) → waitCoded t i ≡ waitCoded s i
+  pub wait-coded-same : (i : ℕ) → Same s t (waitingAt + itemRow * i) (waitingAt + itemRow * i + 8) → waitCoded t i ≡ waitCoded s i
   unfolding waitCoded
   wait-coded-same i w =
       rw (
-        w (waitingAt + 12 * i) (omega arith) (omega arith),
-        w (waitingAt + 12 * i + 4) (omega arith) (omega arith),
-        part-still (word s (waitingAt + 12 * i)) (word s (waitingAt + 12 * i + 4)),
+        w (waitingAt + itemRow * i) (omega arith) (omega arith),
+        w (waitingAt + itemRow * i + 4) (omega arith) (omega arith),
+        part-still (word s (waitingAt + itemRow * i)) (word s (waitingAt + itemRow * i + 4)),
       )
 
 -- ---- parts that are as they were
 module _ {rs : List Range} {s t : List ℕ} (w : Wrote rs s t) (still : Still s t) where
-  pub exprs-coded-kept : apart (0, 4) rs ≡ true → apart (64, 327764) rs ≡ true → apart (524372, 917588) rs ≡ true → ExprsCoded s → ExprsCoded t
+  pub exprs-coded-kept : apart (0, 4) rs ≡ true → apart (exprsAt, exprPointersAt) rs ≡ true → apart (itemsAt, namesAt) rs ≡ true → ExprsCoded s → ExprsCoded t
   unfolding firstItem sortOf
   exprs-coded-kept a b c x =
       let n : word t exprCount ≡ word s exprCount = number-kept w exprCount a in
-      let v = same-on 64 327764 w b in
-      let u = same-on 524372 917588 w c in
+      let v = same-on exprsAt exprPointersAt w b in
+      let u = same-on itemsAt namesAt w c in
       let few = x .few in
-      let first : (e : ℕ) → e ≤ word s exprCount → firstItem t e ≡ firstItem s e = λ e h. v (exprsAt + 20 * e) (omega arith) (omega arith) in
+      let first : (e : ℕ) → e ≤ word s exprCount → firstItem t e ≡ firstItem s e = λ e h. v (exprsAt + exprRow * e) (omega arith) (omega arith) in
       record {
         few = rw n few;
         begins = first 0 (omega arith) ∙ x .begins;
@@ -162,38 +162,38 @@ module _ {rs : List Range} {s t : List ℕ} (w : Wrote rs s t) (still : Still s 
             let few-items = firsts-few x (e + 1) (omega arith) in
             let l′ : firstItem s e ≤ j = rw (first e (omega arith)) at l in
             let m′ : j < firstItem s (e + 1) = rw (first (e + 1) (omega arith)) at m in
-            rw (v (exprsAt + 20 * e + 4) (omega arith) (omega arith))
+            rw (v (exprsAt + exprRow * e + 4) (omega arith) (omega arith))
             (item-coded-same s t still (sortOf s e) j (λ i p q. u i (omega arith) (omega arith)) ∙ x .items e j k l′ m′);
       }
 
-  pub names-coded-kept : apart (4, 8) rs ≡ true → apart (917588, 950356) rs ≡ true → NamesCoded s → NamesCoded t
+  pub names-coded-kept : apart (4, 8) rs ≡ true → apart (namesAt, namePointersAt) rs ≡ true → NamesCoded s → NamesCoded t
   names-coded-kept a b x =
       let n : word t nameCount ≡ word s nameCount = number-kept w nameCount a in
-      let v = same-on 917588 950356 w b in
+      let v = same-on namesAt namePointersAt w b in
       let few = x .few in
       record {
         few = rw n few;
         rows = λ e h. let k : e < word s nameCount = rw n at h in name-coded-same s t still e (λ j p q. v j (omega arith) (omega arith)) ∙ x .rows e k;
       }
 
-  pub diagnostics-coded-kept : apart (8, 16) rs ≡ true → apart (999508, 1917012) rs ≡ true → DiagnosticsCoded s → DiagnosticsCoded t
+  pub diagnostics-coded-kept : apart (8, 16) rs ≡ true → apart (diagnosticsAt, lostAt) rs ≡ true → DiagnosticsCoded s → DiagnosticsCoded t
   diagnostics-coded-kept a b x =
       let c = same-on 8 16 w a in
       let n : word t diagnosticCount ≡ word s diagnosticCount = c diagnosticCount (omega arith) (omega arith) in
       let m : word t lostCount ≡ word s lostCount = c lostCount (omega arith) (omega arith) in
-      let v = same-on 999508 1917012 w b in
+      let v = same-on diagnosticsAt lostAt w b in
       let few = x .few in
       record {
         few = rw n few;
         fewLost = rw m (x .fewLost);
         rows = λ i h.
             let k : i < word s diagnosticCount = rw n at h in
-            rw (v (diagnosticsAt + 28 * i) (omega arith) (omega arith)) (fits-still s t still (word s (diagnosticsAt + 28 * i)) ∙ x .rows i k);
+            rw (v (diagnosticsAt + diagnosticRow * i) (omega arith) (omega arith)) (fits-still s t still (word s (diagnosticsAt + diagnosticRow * i)) ∙ x .rows i k);
       }
 
-  pub waits-coded-kept : apart (32, 36) rs ≡ true → apart (2588772, 2785380) rs ≡ true → WaitsCoded s → WaitsCoded t
+  pub waits-coded-kept : apart (32, 36) rs ≡ true → apart (waitingAt, setsAt) rs ≡ true → WaitsCoded s → WaitsCoded t
   waits-coded-kept a b x i h =
-      let v = same-on 2588772 2785380 w b in
+      let v = same-on waitingAt setsAt w b in
       let k : i < cap (word s waitingCount) waitingLimit = rw (number-kept w waitingCount a) at h in
       let l = cap-lim (word s waitingCount) waitingLimit in
       wait-coded-same s t still i (λ j p q. v j (omega arith) (omega arith)) ∙ x i k
@@ -202,18 +202,18 @@ module _ {rs : List Range} {s t : List ℕ} (w : Wrote rs s t) (still : Still s 
 -- a write that meets no part
 abbrev pub aside : List Range → Bool
 aside rs =
-    apart (0, 4) rs && (apart (4, 8) rs && (apart (8, 16) rs && (apart (32, 36) rs && (apart (64, 327764) rs && (apart (524372, 917588) rs && (apart (917588, 950356) rs && (apart (999508, 1917012) rs && apart (2588772, 2785380) rs)))))))
+    apart (0, 4) rs && (apart (4, 8) rs && (apart (8, 16) rs && (apart (32, 36) rs && (apart (exprsAt, exprPointersAt) rs && (apart (itemsAt, namesAt) rs && (apart (namesAt, namePointersAt) rs && (apart (diagnosticsAt, lostAt) rs && apart (waitingAt, setsAt) rs)))))))
 
 pub fine-kept : {rs : List Range} {s t : List ℕ} → Wrote rs s t → Still s t → aside rs ≡ true → Fine s → Fine t
 fine-kept {rs} w still e f =
-    let a = and-true (apart (0, 4) rs) _ e in
-    let b = and-true (apart (4, 8) rs) _ (a .1) in
-    let c = and-true (apart (8, 16) rs) _ (b .1) in
-    let d = and-true (apart (32, 36) rs) _ (c .1) in
-    let g = and-true (apart (64, 327764) rs) _ (d .1) in
-    let h = and-true (apart (524372, 917588) rs) _ (g .1) in
-    let i = and-true (apart (917588, 950356) rs) _ (h .1) in
-    let j = and-true (apart (999508, 1917012) rs) _ (i .1) in
+    let a = and-eq-true-iff (apart (0, 4) rs) _ .0 e in
+    let b = and-eq-true-iff (apart (4, 8) rs) _ .0 (a .1) in
+    let c = and-eq-true-iff (apart (8, 16) rs) _ .0 (b .1) in
+    let d = and-eq-true-iff (apart (32, 36) rs) _ .0 (c .1) in
+    let g = and-eq-true-iff (apart (exprsAt, exprPointersAt) rs) _ .0 (d .1) in
+    let h = and-eq-true-iff (apart (itemsAt, namesAt) rs) _ .0 (g .1) in
+    let i = and-eq-true-iff (apart (namesAt, namePointersAt) rs) _ .0 (h .1) in
+    let j = and-eq-true-iff (apart (diagnosticsAt, lostAt) rs) _ .0 (i .1) in
     all-coded
     (exprs-coded-kept w still (a .0) (g .0) (h .0) (exprs-coded f))
     (names-coded-kept w still (b .0) (i .0) (names-coded f))

@@ -1,44 +1,18 @@
--- Texts by numbers within the bytes in use. Assumes nothing.
+-- Rows and items with texts by numbers within the bytes in use. Assumes nothing.
 use mathlib.Core.Path.{_≡_, refl, sym, _∙_}
-use mathlib.Core.Logic.{inr}
-use mathlib.Core.Bool.{Bool, true, false, _||_, not}
+use mathlib.Core.Bool.{Bool, true, false}
 use mathlib.Core.List.{List}
-use Prim.Native.Nat.{ℕ, _+_, _≤_}
-use native.Mathlib.Omega.{arith}
-use lib.Dec.{eqb, leb}
-use borrow.Author.Tests.{eqb-true, eq-eqb, ne-eqb, leb-true, le-leb}
-use Rattle.words.specs.Words.{word}
-use Rattle.spec.specs.Basics.{if_then_else_}
-use Rattle.spec.proofs.BoolLaws.{differ}
-use Rattle.layout.specs.Layout.{absent, textsPlace, textsAt, textLimit}
-use Rattle.layout.specs.Rows.{cap}
-use Rattle.layout.specs.Texts.{textsUsed, textIn, textHeld}
+use Prim.Native.Nat.{ℕ}
+use lib.Dec.{eqb}
+use borrow.Author.Tests.{eqb-true, ne-eqb}
+use Rattle.spec.proofs.general.BoolLaws.{differ}
+use Rattle.layout.specs.Texts.{textIn}
 use Rattle.layout.specs.Exprs.{Item, itemOf, exprOf}
-use Rattle.layout.proofs.Frames.{text-absent}
-use Rattle.layout.proofs.RowLaws.{cap-less}
-use Rattle.layout.proofs.TextLaws.{text-unheld}
-use Rattle.soundness.specs.Sound.{textFits}
+use Rattle.texts.specs.Fits.{textFits, Held}
 use Rattle.soundness.specs.Coded.{fieldsCoded, partCoded}
 use Rattle.store.specs.declared.codes.Row.{Row}
 use Rattle.store.specs.declared.codes.ItemRow.{ItemRow}
-use Rattle.store.specs.Codes.{hasText, ranged, Held, HeldRow, HeldItem}
-
--- ---- a number
-module _ (s : List ℕ) (k : ℕ) (b : Bool) (h : b ≡ textHeld s k) where
-  pub held-itself : b ≡ true → Held k s k
-  unfolding textHeld textsUsed textFits
-  held-itself e =
-      let within : k + 4 + word s (textsAt + k) ≤ cap (word s textsPlace) textLimit = leb-true (k + 4 + word s (textsAt + k)) (cap (word s textsPlace) textLimit) (sym h ∙ e) in
-      let fits : leb (k + 4 + word s (textsAt + k)) (word s textsPlace) ≡ true = le-leb (k + 4 + word s (textsAt + k)) (word s textsPlace) (omega (arith, within, cap-less (word s textsPlace) textLimit (word s textsPlace) (inr (omega arith)))) in
-      record { same = refl; fits = or-second (eqb k absent) _ fits }
-    where
-      or-second : (x y : Bool) → y ≡ true → (x || y) ≡ true
-      or-second true y q = refl
-      or-second false y q = q
-
-  pub held-mark : b ≡ false → Held k s absent
-  unfolding textFits
-  held-mark e = record { same = text-absent s ∙ sym (text-unheld s k (sym h ∙ e)); fits = refl }
+use Rattle.store.specs.Codes.{hasText, ranged, HeldRow, HeldItem}
 
 -- ---- sorts
 pub text-first : (sort : ℕ) → sort ≡ 6 → true ≡ hasText sort

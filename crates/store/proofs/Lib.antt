@@ -6,3 +6,5 @@ pub mod NameLaws
 pub mod ClearLaws
 pub mod ReadLaws
 pub mod SourceMapLaws
+pub mod ReferenceLaws
+pub mod TextChangeLaws

@@ -32,7 +32,7 @@ use Rattle.store.specs.declared.codes.Row.{Row}
 use Rattle.store.specs.declared.codes.ItemRow.{ItemRow}
 use Rattle.store.specs.declared.read_exprs.Items.{Items}
 use Rattle.layout.specs.Exprs.{Item, child, exprOf, itemOf, itemAt, itemIn, itemsOf, firstItem, sortOf, pointerAt, pointerOr, madeIn, wide, floatOr, integerOr}
-use Rattle.layout.specs.Layout.{Long, exprCount, nameCount, diagnosticCount, lostCount, entryPlace, exprsAt, exprPointersAt, itemsAt, namesAt, namePointersAt, diagnosticsAt, lostAt, exprLimit, itemLimit, nameLimit, diagnosticLimit, absent}
+use Rattle.layout.specs.Layout.{absent, exprLimit, itemLimit, nameLimit, diagnosticLimit, exprRow, pointerRow, itemRow, nameRow, diagnosticRow, exprCount, nameCount, diagnosticCount, lostCount, entryPlace, exprsAt, exprPointersAt, itemsAt, namesAt, namePointersAt, diagnosticsAt, lostAt, Long}
 use Rattle.layout.specs.Rows.{cap, rowsTo, rowsFrom}
 use Rattle.layout.specs.Texts.{textIn, textOf}
 use Rattle.layout.specs.Changes.{Outside, Wrote, Still}
@@ -158,15 +158,15 @@ module _ (s : List ℕ) (n r : ℕ) where
 
   pub lost-counted : n ≡ word s lostCount → (r ≡ cap n diagnosticLimit) × (r ≤ diagnosticLimit) → (r ≡ length (lostOf s)) × (r ≤ diagnosticLimit)
   unfolding lostOf
-  lost-counted e h = counted (λ i. pointerAt s (lostAt + 12 * i)) s lostCount diagnosticLimit n r e h
+  lost-counted e h = counted (λ i. pointerAt s (lostAt + pointerRow * i)) s lostCount diagnosticLimit n r e h
 
 -- ---- the entry
-pub entry-set : (s t : List ℕ) (e : ℕ) → Long s → e < 2 ^ 32 → t ≡ setWord s 16 e → SetEntry e s t
+pub entry-set : (s t : List ℕ) (e : ℕ) → Long s → e < 2 ^ 32 → t ≡ setWord s entryPlace e → SetEntry e s t
 unfolding Outside moduleIn stateOf
 entry-set s t e long h q =
-    let wrote : Wrote ((16, 20) ∷ []) s t = record { size = rw q (length-setWord s 16 e); other = λ j o. rw q (word-setWord-other s 16 e j (o .0)) } in
-    let still : Still s t = rw q (still-setWord s 16 e (omega arith) (λ z. omega arith)) in
-    let w : word t entryPlace ≡ e = rw q (word-setWord-same s 16 e (omega arith) h) in
+    let wrote : Wrote ((entryPlace, entryPlace + 4) ∷ []) s t = record { size = rw q (length-setWord s entryPlace e); other = λ j o. rw q (word-setWord-other s entryPlace e j (o .0)) } in
+    let still : Still s t = rw q (still-setWord s entryPlace e (omega arith) (λ z. omega arith)) in
+    let w : word t entryPlace ≡ e = rw q (word-setWord-same s entryPlace e (omega arith) h) in
     record {
       wrote = wrote;
       still = still;
@@ -199,7 +199,7 @@ module _ (s : List ℕ) (n e : ℕ) (size : n ≡ length (exprsOf s)) where
   unfolding itemsAtExpr
   items-out h = rw (le-ltb e (length (exprsOf s)) (omega arith))
 
-  pub expr-in : (w : ℕ) (r : Row) (x : Expr) → e < n → w ≡ e → r .sort ≡ word s (exprsAt + 20 * w + 4) → r .a ≡ word s (exprsAt + 20 * w + 8) → r .b ≡ word s (exprsAt + 20 * w + 12) → r .c ≡ word s (exprsAt + 20 * w + 16)
+  pub expr-in : (w : ℕ) (r : Row) (x : Expr) → e < n → w ≡ e → r .sort ≡ word s (exprsAt + exprRow * w + 4) → r .a ≡ word s (exprsAt + exprRow * w + 8) → r .b ≡ word s (exprsAt + exprRow * w + 12) → r .c ≡ word s (exprsAt + exprRow * w + 16)
       → Reads r x → (exprWith (textIn s) x (itemsAtExpr s e) ≡ exprAt (moduleIn s) e) × ValidExpr x
   unfolding exprAt madeIn sortOf
   expr-in w r x h q k a b c read = (rw (exprAt, made-in h, items-in h, read .same s (itemsOf s e), k, a, b, c, q), read .valid)
@@ -211,11 +211,11 @@ module _ (s : List ℕ) (n e : ℕ) (size : n ≡ length (exprsOf s)) where
   pub pointer-out : n ≤ e → none ≡ madeAt (moduleIn s) e .pointer
   pointer-out h = rw (made-out h)
 
-  pub pointer-none : (w v : ℕ) → e < n → w ≡ e → v ≡ word s (exprsAt + 20 * w + 4) → v ≡ 0 → none ≡ madeAt (moduleIn s) e .pointer
+  pub pointer-none : (w v : ℕ) → e < n → w ≡ e → v ≡ word s (exprsAt + exprRow * w + 4) → v ≡ 0 → none ≡ madeAt (moduleIn s) e .pointer
   unfolding madeIn sortOf pointerOr
   pointer-none w v h q a z = rw (made-in h, ← q, ← a, z)
 
-  pub pointer-some : (w u v : ℕ) (p : code-pointer.Pointer) → e < n → w ≡ e → u ≡ e → v ≡ word s (exprsAt + 20 * w + 4) → (v ≡ 0 → ⊥) → pointerOf p ≡ pointerAt s (exprPointersAt + 12 * u) → some (pointerOf p) ≡ madeAt (moduleIn s) e .pointer
+  pub pointer-some : (w u v : ℕ) (p : code-pointer.Pointer) → e < n → w ≡ e → u ≡ e → v ≡ word s (exprsAt + exprRow * w + 4) → (v ≡ 0 → ⊥) → pointerOf p ≡ pointerAt s (exprPointersAt + pointerRow * u) → some (pointerOf p) ≡ madeAt (moduleIn s) e .pointer
   unfolding madeIn sortOf pointerOr
   pointer-some w u v p h q k a z x = rw (made-in h, x, k, ← q, ← a, ne-eqb v 0 z)
 
@@ -223,11 +223,11 @@ module _ (s : List ℕ) (n e : ℕ) (size : n ≡ length (exprsOf s)) where
   unfolding rowsTo
   items-none h = record { few = omega arith; same = items-out h }
 
-  module _ (w u v first end : ℕ) (h : e < n) (q : w ≡ e) (a : u ≡ word s (exprsAt + 20 * w)) (b : v ≡ word s (exprsAt + 20 * w + 20)) (c : first ≡ cap u itemLimit) (d : end ≡ cap v itemLimit) where
+  module _ (w u v first end : ℕ) (h : e < n) (q : w ≡ e) (a : u ≡ word s (exprsAt + exprRow * w)) (b : v ≡ word s (exprsAt + exprRow * w + 20)) (c : first ≡ cap u itemLimit) (d : end ≡ cap v itemLimit) where
     items-are : itemsAtExpr s e ≡ rowsTo (λ k. itemIn s (first + k)) (end - first)
     unfolding itemsOf rowsFrom firstItem
     items-are =
-        let p : exprsAt + 20 * (e + 1) ≡ exprsAt + 20 * w + 20 = omega arith in
+        let p : exprsAt + exprRow * (e + 1) ≡ exprsAt + exprRow * w + 20 = omega arith in
         rw (items-in h, p, ← b, ← d, ← q, ← a, ← c)
 
     pub items-few : end ≤ first → Covers s e (record { first = first; count = 0 })
@@ -236,11 +236,11 @@ module _ (s : List ℕ) (n e : ℕ) (size : n ≡ length (exprsOf s)) where
     pub items-some : first < end → Covers s e (record { first = first; count = end - first })
     items-some l = record { few = omega (arith, cap-lim v itemLimit); same = items-are }
 
-pub covers-count : (s : List ℕ) (e : ℕ) (x : Items) → Covers s e x → (x .count ≡ length (itemsAtExpr s e)) × (x .count ≤ 32768)
+pub covers-count : (s : List ℕ) (e : ℕ) (x : Items) → Covers s e x → (x .count ≡ length (itemsAtExpr s e)) × (x .count ≤ itemLimit)
 covers-count s e x h = (rw (h .same, length-rows (λ k. itemIn s (x .first + k)) (x .count)), omega (arith, h .few))
 
 module _ (s : List ℕ) (e i : ℕ) (x : Items) (covers : Covers s e x) where
-  pub item-in : (w : ℕ) (y : Item) → i < x .count → w ≡ x .first + i → y ≡ itemAt s (itemsAt + 12 * w) → y ≡ itemAtExpr s e i
+  pub item-in : (w : ℕ) (y : Item) → i < x .count → w ≡ x .first + i → y ≡ itemAt s (itemsAt + itemRow * w) → y ≡ itemAtExpr s e i
   unfolding itemAtExpr itemIn
   item-in w y h q a = rw (covers .same, getD-rows (λ k. itemIn s (x .first + k)) (x .count) i (child 0) h, a, q)
 
@@ -258,18 +258,18 @@ module _ (s : List ℕ) (n x : ℕ) (size : n ≡ length (namesOf s)) where
   unfolding moduleIn moduleOf stateOf namesOf nameAt
   name-out h = lacked (nameIn s) (cap (word s nameCount) nameLimit) n x (record { text = []; kind = spec.PlainAttrset; pointer = record { kind = 0; from = 0; to = 0 } }) size h
 
-  pub name-text-in : (w t : ℕ) → x < n → w ≡ x → t ≡ word s (namesAt + 8 * w) → textIn s t ≡ nameAt (moduleIn s) x .text
+  pub name-text-in : (w t : ℕ) → x < n → w ≡ x → t ≡ word s (namesAt + nameRow * w) → textIn s t ≡ nameAt (moduleIn s) x .text
   unfolding nameIn
   name-text-in w t h q a = rw (name-in h, a, q)
 
   pub name-text-out : n ≤ x → textIn s absent ≡ nameAt (moduleIn s) x .text
   name-text-out h = rw (name-out h, text-absent s)
 
-  pub name-kind-in : (w v : ℕ) (k : NameKind) → x < n → w ≡ x → v ≡ word s (namesAt + 8 * w + 4) → k ≡ kindOfNumber v → kindOf k ≡ nameAt (moduleIn s) x .kind
+  pub name-kind-in : (w v : ℕ) (k : NameKind) → x < n → w ≡ x → v ≡ word s (namesAt + nameRow * w + 4) → k ≡ kindOfNumber v → kindOf k ≡ nameAt (moduleIn s) x .kind
   unfolding nameIn nameKindOf
   name-kind-in w v k h q a b = rw (name-in h, b, a, q)
 
-  pub name-pointer-in : (w : ℕ) (p : spec.Pointer) → x < n → w ≡ x → p ≡ pointerAt s (namePointersAt + 12 * w) → p ≡ nameAt (moduleIn s) x .pointer
+  pub name-pointer-in : (w : ℕ) (p : spec.Pointer) → x < n → w ≡ x → p ≡ pointerAt s (namePointersAt + pointerRow * w) → p ≡ nameAt (moduleIn s) x .pointer
   unfolding nameIn
   name-pointer-in w p h q a = rw (name-in h, a, q)
 
@@ -284,26 +284,26 @@ module _ (s : List ℕ) (n i : ℕ) where
     unfolding moduleIn moduleOf stateOf diagnosticsOf diagnosticAt
     diagnostic-out h = lacked (diagnosticIn s) (cap (word s diagnosticCount) diagnosticLimit) n i (record { key = []; first = nowhere; second = nowhere }) size h
 
-    pub key-in : (w t : ℕ) → i < n → w ≡ i → t ≡ word s (diagnosticsAt + 28 * w) → textIn s t ≡ diagnosticAt (moduleIn s) i .key
+    pub key-in : (w t : ℕ) → i < n → w ≡ i → t ≡ word s (diagnosticsAt + diagnosticRow * w) → textIn s t ≡ diagnosticAt (moduleIn s) i .key
     unfolding diagnosticIn
     key-in w t h q a = rw (diagnostic-in h, a, q)
 
     pub key-out : n ≤ i → textIn s absent ≡ diagnosticAt (moduleIn s) i .key
     key-out h = rw (diagnostic-out h, text-absent s)
 
-    pub first-in : (w : ℕ) (p : spec.Pointer) → i < n → w ≡ i → p ≡ pointerAt s (diagnosticsAt + 28 * w + 4) → p ≡ diagnosticAt (moduleIn s) i .first
+    pub first-in : (w : ℕ) (p : spec.Pointer) → i < n → w ≡ i → p ≡ pointerAt s (diagnosticsAt + diagnosticRow * w + 4) → p ≡ diagnosticAt (moduleIn s) i .first
     unfolding diagnosticIn
     first-in w p h q a = rw (diagnostic-in h, a, q)
 
-    pub second-in : (w : ℕ) (p : spec.Pointer) → i < n → w ≡ i → p ≡ pointerAt s (diagnosticsAt + 28 * w + 16) → p ≡ diagnosticAt (moduleIn s) i .second
+    pub second-in : (w : ℕ) (p : spec.Pointer) → i < n → w ≡ i → p ≡ pointerAt s (diagnosticsAt + diagnosticRow * w + 16) → p ≡ diagnosticAt (moduleIn s) i .second
     unfolding diagnosticIn
     second-in w p h q a = rw (diagnostic-in h, a, q)
 
   module _ (size : n ≡ length (lostOf s)) where
-    pub lost-in : (w : ℕ) (p : spec.Pointer) → i < n → w ≡ i → p ≡ pointerAt s (lostAt + 12 * w) → p ≡ lostPointerAt (moduleIn s) i
+    pub lost-in : (w : ℕ) (p : spec.Pointer) → i < n → w ≡ i → p ≡ pointerAt s (lostAt + pointerRow * w) → p ≡ lostPointerAt (moduleIn s) i
     unfolding moduleIn moduleOf stateOf lostOf lostPointerAt
-    lost-in w p h q a = rw (got (λ k. pointerAt s (lostAt + 12 * k)) (cap (word s lostCount) diagnosticLimit) n i nowhere size h, a, q)
+    lost-in w p h q a = rw (got (λ k. pointerAt s (lostAt + pointerRow * k)) (cap (word s lostCount) diagnosticLimit) n i nowhere size h, a, q)
 
     pub lost-out : n ≤ i → nowhere ≡ lostPointerAt (moduleIn s) i
     unfolding moduleIn moduleOf stateOf lostOf lostPointerAt
-    lost-out h = rw (lacked (λ k. pointerAt s (lostAt + 12 * k)) (cap (word s lostCount) diagnosticLimit) n i nowhere size h)
+    lost-out h = rw (lacked (λ k. pointerAt s (lostAt + pointerRow * k)) (cap (word s lostCount) diagnosticLimit) n i nowhere size h)

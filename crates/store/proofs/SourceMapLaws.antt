@@ -11,7 +11,7 @@ use Rattle.words.specs.Words.{word}
 use Rattle.spec.specs.Basics.{if_then_else_}
 use Rattle.spec.specs.Module.{Pointer, Made, Name, samePointer, pointsTo, lastAt, exprPointers, namePointers, exprForNode, nameForNode}
 use Rattle.spec.specs.Lower.{moduleOf}
-use Rattle.layout.specs.Layout.{exprCount, nameCount, exprLimit, nameLimit, exprsAt, exprPointersAt, namePointersAt}
+use Rattle.layout.specs.Layout.{exprLimit, nameLimit, exprRow, pointerRow, exprCount, nameCount, exprsAt, exprPointersAt, namePointersAt}
 use Rattle.layout.specs.Rows.{cap, rowsTo}
 use Rattle.layout.specs.Exprs.{pointerAt, pointerOr, sortOf, madeIn}
 use Rattle.layout.specs.States.{nameIn, exprsOf, namesOf, stateOf, moduleIn}
@@ -97,14 +97,14 @@ module _ (s : List ℕ) (p : Pointer) (n : ℕ) where
 
 -- a row's pointer
 module _ (s : List ℕ) (p : Pointer) (n w : ℕ) (is : w ≡ n) where
-  pub expr-unpointed : (v : ℕ) → v ≡ word s (exprsAt + 20 * w + 4) → v ≡ 0 → false ≡ pointsTo p (madeIn s n .pointer)
+  pub expr-unpointed : (v : ℕ) → v ≡ word s (exprsAt + exprRow * w + 4) → v ≡ 0 → false ≡ pointsTo p (madeIn s n .pointer)
   unfolding madeIn sortOf pointerOr pointsTo
   expr-unpointed v a z = rw (← is, ← a, z)
 
-  pub expr-pointed : (u v : ℕ) (b : Bool) → u ≡ n → v ≡ word s (exprsAt + 20 * w + 4) → (v ≡ 0 → ⊥) → b ≡ samePointer p (pointerAt s (exprPointersAt + 12 * u)) → b ≡ pointsTo p (madeIn s n .pointer)
+  pub expr-pointed : (u v : ℕ) (b : Bool) → u ≡ n → v ≡ word s (exprsAt + exprRow * w + 4) → (v ≡ 0 → ⊥) → b ≡ samePointer p (pointerAt s (exprPointersAt + pointerRow * u)) → b ≡ pointsTo p (madeIn s n .pointer)
   unfolding madeIn sortOf pointerOr pointsTo
   expr-pointed u v b k a z e = let q : u ≡ w = k ∙ sym is in rw (e, ← is, q, ← a, ne-eqb v 0 z)
 
-  pub name-pointed : (b : Bool) → b ≡ samePointer p (pointerAt s (namePointersAt + 12 * w)) → b ≡ pointsTo p (namePointer s n)
+  pub name-pointed : (b : Bool) → b ≡ samePointer p (pointerAt s (namePointersAt + pointerRow * w)) → b ≡ pointsTo p (namePointer s n)
   unfolding namePointer nameIn pointsTo
   name-pointed b e = rw (← is) e

@@ -26,7 +26,6 @@ use Rattle.store.specs.declared.codes.Row.{Row}
 use Rattle.store.specs.declared.codes.ItemRow.{ItemRow}
 use Rattle.layout.specs.Texts.{textIn}
 use Rattle.layout.specs.Exprs as rows
-use Rattle.soundness.specs.Sound.{textFits}
 use Rattle.soundness.specs.Coded.{fieldsCoded, partCoded}
 
 -- a pattern with the fields that are among the items
@@ -145,11 +144,6 @@ pub record SaysItem (r : ItemRow) (i : Item) : Type 0 where
   pub in-range : leb (r .tag) 9 ≡ true
 
 -- ---- texts within the bytes in use
--- the text k by a number within the bytes in use
-pub record Held (k : ℕ) (s : List ℕ) (r : ℕ) : Type 0 where
-  pub same : textIn s r ≡ textIn s k
-  pub fits : textFits s r ≡ true
-
 -- a row that says the same in the store s, its text within the bytes in use
 pub record HeldRow (x : Row) (s : List ℕ) (r : Row) : Type 0 where
   pub sort-same : r .sort ≡ x .sort

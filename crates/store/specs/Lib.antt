@@ -1,3 +1,4 @@
 pub mod Codes
 pub mod Work
 pub mod Readers
+pub mod TextChanges

@@ -12,7 +12,7 @@ use Rattle.module.specs.Ids.{pointerOf}
 use Rattle.store.specs.declared.read_exprs.MaybePointer.{MaybePointer}
 use Rattle.store.specs.declared.read_exprs.MaybePointer.the-variants as maybe-pointer
 use Rattle.store.specs.declared.read_exprs.Items.{Items}
-use Rattle.layout.specs.Layout.{itemLimit}
+use Rattle.layout.specs.Layout.{itemLimit, entryPlace}
 use Rattle.layout.specs.Rows.{rowsTo}
 use Rattle.layout.specs.Changes.{Wrote, Still}
 use Rattle.layout.specs.Exprs.{Item, child, itemIn, itemsOf}
@@ -21,7 +21,7 @@ use Rattle.layout.specs.States.{exprsOf, stateOf, moduleIn}
 -- ---- the entry
 -- the entry is e, and all else is as it was
 pub record SetEntry (e : ExprId) (s t : List ℕ) : Type 0 where
-  pub wrote : Wrote ((16, 20) ∷ []) s t
+  pub wrote : Wrote ((entryPlace, entryPlace + 4) ∷ []) s t
   pub still : Still s t
   pub entry : moduleIn t ≡ moduleOf e (stateOf s)
 

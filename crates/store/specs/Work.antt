@@ -11,7 +11,7 @@ use Rattle.spec.specs.Module.{Pointer, Made, NameKind, Name, DuplicateKey}
 use Rattle.spec.specs.Steps.{Step}
 use Rattle.spec.specs.State.{State, state, empty, newMade, addDuplicate}
 use Rattle.store.specs.declared.codes.Row.{Row}
-use Rattle.layout.specs.Layout.{exprCount, nameCount, entryPlace, scopeCount, spentPlace, textsPlace, scopesAt, firstsAt, diagnosticCount, lostCount, lostAt, diagnosticsAt, exprsAt, exprPointersAt, itemsAt, waitingAt, sheetAt, waitingCount, setCount, entryCount, exprLimit, nameLimit, diagnosticLimit, itemLimit, waitingLimit}
+use Rattle.layout.specs.Layout.{exprLimit, itemLimit, nameLimit, diagnosticLimit, waitingLimit, exprRow, pointerRow, itemRow, diagnosticRow, exprCount, nameCount, diagnosticCount, lostCount, entryPlace, scopeCount, spentPlace, textsPlace, waitingCount, setCount, entryCount, exprsAt, exprPointersAt, itemsAt, diagnosticsAt, lostAt, usesAt, scopesAt, firstsAt, waitingAt, sheetAt}
 use Rattle.layout.specs.Rows.{cap}
 use Rattle.layout.specs.Changes.{Range, Wrote, Still}
 use Rattle.layout.specs.Exprs.{Item, child, text, field, static, dynamic, itemAt, itemIn, firstItem, sortOf, pointerAt}
@@ -74,7 +74,7 @@ putDuplicate key first second w =
 -- ---- what a step did
 -- the counts, the module and the work
 unfoldable pub lowering : List Range
-lowering = (0, 16) ∷ (32, 48) ∷ (64, 2310228) ∷ (2588772, 2998372) ∷ []
+lowering = (exprCount, entryPlace) ∷ (waitingCount, entryCount + 8) ∷ (exprsAt, usesAt) ∷ (waitingAt, sheetAt) ∷ []
 
 -- ---- which items an expression may have
 -- a tag of the item's class
@@ -91,7 +91,7 @@ suits sort (i ∷ is) = tagFits sort (tagFor i) && suits sort is
 
 -- an item that waits: a tag that there is, and of a literal part a text in use
 unfoldable pub waitCoded : List ℕ → ℕ → Bool
-waitCoded s i = leb (word s (waitingAt + 12 * i)) 9 && partCoded s (word s (waitingAt + 12 * i)) (word s (waitingAt + 12 * i + 4))
+waitCoded s i = leb (word s (waitingAt + itemRow * i)) 9 && partCoded s (word s (waitingAt + itemRow * i)) (word s (waitingAt + itemRow * i + 4))
 
 -- The rows of the module and the items that wait are what decoding takes them for.
 pub record Fine (s : List ℕ) : Type 0 where
@@ -117,39 +117,39 @@ Takes sort make base s r t = DidWhere (suits sort (drop base (waitingOf s)) ≡ 
 -- ---- the parts of an append
 -- `count` items that waited from `base` on lie in the table from `first` on, and wait no longer
 pub record Took (base count first : ℕ) (s t : List ℕ) : Type 0 where
-  pub wrote : Wrote ((32, 36) ∷ (itemsAt + 12 * first, itemsAt + 12 * (first + count)) ∷ []) s t
+  pub wrote : Wrote ((waitingCount, waitingCount + 4) ∷ (itemsAt + itemRow * first, itemsAt + itemRow * (first + count)) ∷ []) s t
   pub still : Still s t
-  pub items : (j : ℕ) → j < count → itemIn t (first + j) ≡ itemAt s (waitingAt + 12 * (base + j))
-  pub moved : (i : ℕ) → i + 4 ≤ 12 * count → word t (itemsAt + 12 * first + i) ≡ word s (waitingAt + 12 * base + i)
+  pub items : (j : ℕ) → j < count → itemIn t (first + j) ≡ itemAt s (waitingAt + itemRow * (base + j))
+  pub moved : (i : ℕ) → i + 4 ≤ 12 * count → word t (itemsAt + itemRow * first + i) ≡ word s (waitingAt + itemRow * base + i)
   pub waiting : waitingOf t ≡ take base (waitingOf s)
 
 -- the row n, its pointer and where the next one's items begin
 pub record PutRow (n end : ℕ) (r : Row) (p : Pointer) (s t : List ℕ) : Type 0 where
-  pub wrote : Wrote ((0, 4) ∷ (exprsAt + 20 * n + 4, exprsAt + 20 * n + 24) ∷ (exprPointersAt + 12 * n, exprPointersAt + 12 * n + 12) ∷ []) s t
+  pub wrote : Wrote ((exprCount, exprCount + 4) ∷ (exprsAt + exprRow * n + 4, exprsAt + exprRow * n + 24) ∷ (exprPointersAt + pointerRow * n, exprPointersAt + pointerRow * n + 12) ∷ []) s t
   pub still : Still s t
   pub count : word t exprCount ≡ n + 1
   pub next : firstItem t (n + 1) ≡ end
   pub sort : sortOf t n ≡ r .sort
-  pub a : word t (exprsAt + 20 * n + 8) ≡ r .a
-  pub b : word t (exprsAt + 20 * n + 12) ≡ r .b
-  pub c : word t (exprsAt + 20 * n + 16) ≡ r .c
-  pub pointer : pointerAt t (exprPointersAt + 12 * n) ≡ p
+  pub a : word t (exprsAt + exprRow * n + 8) ≡ r .a
+  pub b : word t (exprsAt + exprRow * n + 12) ≡ r .b
+  pub c : word t (exprsAt + exprRow * n + 16) ≡ r .c
+  pub pointer : pointerAt t (exprPointersAt + pointerRow * n) ≡ p
 
 -- the row n of the diagnostics
 pub record PutDiagnostic (n key : ℕ) (first second : Pointer) (s t : List ℕ) : Type 0 where
-  pub wrote : Wrote ((8, 12) ∷ (diagnosticsAt + 28 * n, diagnosticsAt + 28 * n + 28) ∷ []) s t
+  pub wrote : Wrote ((diagnosticCount, diagnosticCount + 4) ∷ (diagnosticsAt + diagnosticRow * n, diagnosticsAt + diagnosticRow * n + 28) ∷ []) s t
   pub still : Still s t
   pub count : word t diagnosticCount ≡ n + 1
-  pub key-is : word t (diagnosticsAt + 28 * n) ≡ key
-  pub first-is : pointerAt t (diagnosticsAt + 28 * n + 4) ≡ first
-  pub second-is : pointerAt t (diagnosticsAt + 28 * n + 16) ≡ second
+  pub key-is : word t (diagnosticsAt + diagnosticRow * n) ≡ key
+  pub first-is : pointerAt t (diagnosticsAt + diagnosticRow * n + 4) ≡ first
+  pub second-is : pointerAt t (diagnosticsAt + diagnosticRow * n + 16) ≡ second
 
 -- the row n of the lost list
 pub record PutLost (n : ℕ) (p : Pointer) (s t : List ℕ) : Type 0 where
-  pub wrote : Wrote ((12, 16) ∷ (lostAt + 12 * n, lostAt + 12 * n + 12) ∷ []) s t
+  pub wrote : Wrote ((lostCount, lostCount + 4) ∷ (lostAt + pointerRow * n, lostAt + pointerRow * n + 12) ∷ []) s t
   pub still : Still s t
   pub count : word t lostCount ≡ n + 1
-  pub is : pointerAt t (lostAt + 12 * n) ≡ p
+  pub is : pointerAt t (lostAt + pointerRow * n) ≡ p
 
 -- ---- a store with nothing in it
 unfoldable pub noWork : Work
@@ -157,7 +157,7 @@ noWork = record { lowered = empty; waiting = []; used = 0; order = [] }
 
 -- what emptying a store writes: the header, and where the lists of the first rows begin
 unfoldable pub clearing : List Range
-clearing = (0, 44) ∷ (64, 68) ∷ (2441300, 2441304) ∷ (2506848, 2506852) ∷ []
+clearing = (exprCount, entryCount + 4) ∷ (exprsAt, exprsAt + 4) ∷ (scopesAt, scopesAt + 4) ∷ (firstsAt, firstsAt + 4) ∷ []
 
 -- no row of lowering is in use: the counts are 0, and the list of the first expression begins at 0
 pub record NoRows (t : List ℕ) : Type 0 where

@@ -2,13 +2,13 @@
 ghost use Rattle.layout.specs.Layout.{Long};
 ghost use Rattle.store.specs.Work.{Cleared};
 use layout::put_five;
+use layout::tables::ENTRY_COUNT;
+use layout::tables::EXPR_COUNT;
+use layout::tables::EXPRS;
+use layout::tables::FIRSTS;
+use layout::tables::SCOPE_COUNT;
+use layout::tables::SCOPES;
 use words::put32;
-
-const EXPRS: usize = 64;
-
-const SCOPES: usize = 2441300;
-
-const FIRSTS: usize = 2506848;
 
 // All counts are 0, and the lists of the first rows begin at 0. The nodes and the texts stay, though
 // no text is in use.
@@ -16,9 +16,9 @@ pub fn clear(store: &mut [u8])
     requires { ⌜ Long (now store) ⌝ }
     ensures { λ _. ⌜ Cleared (now (store .entry)) (now (store .exit)) ⌝ }
 {
-    put_five(store, 0, 0, 0, 0, 0, 0);
-    put_five(store, 20, 0, 0, 0, 0, 0);
-    put32(store, 40, 0);
+    put_five(store, EXPR_COUNT, 0, 0, 0, 0, 0);
+    put_five(store, SCOPE_COUNT, 0, 0, 0, 0, 0);
+    put32(store, ENTRY_COUNT, 0);
     put32(store, EXPRS, 0);
     put32(store, SCOPES, 0);
     put32(store, FIRSTS, 0);

@@ -2,22 +2,12 @@
 // for the empty text is written in its place, so that what lowering leaves is sound whatever it was given.
 ghost use mathlib.Core.Path.{_≡_};
 ghost use Rattle.layout.specs.Layout.{Long};
-ghost use Rattle.store.specs.Codes.{hasText, Held, HeldRow, HeldItem};
+ghost use Rattle.store.specs.Codes.{hasText, HeldRow, HeldItem};
 use crate::codes::ItemRow;
 use crate::codes::Row;
-use layout::text_held;
-
-const ABSENT: u32 = 4294967295;
+use texts::held_text;
 
 const TEXT_PART: u32 = 1;
-
-// The number of a text, as it is written.
-pub fn held_text(store: &[u8], t: u32) -> u32
-    requires { ⌜ Long (now store) ⌝ }
-    ensures { λ r. ⌜ Held t (now (store .entry)) r ⌝ }
-{
-    if text_held(store, t) { t } else { ABSENT }
-}
 
 // Literal String, Literal Path and Reference.
 fn has_text(sort: u32) -> bool

@@ -1,4 +1,5 @@
-// The module in a store: expressions, items, names and diagnostics are appended and read.
+// The module in a store: expressions, items, names and diagnostics are appended and read, and a name or a Reference
+// gets another text.
 //
 // Above it every function speaks of expressions and names. Every contract is an equation on
 // what the bytes say, and an append tests its limit.
@@ -21,10 +22,12 @@ pub use decode::item_of;
 pub use exprs::alloc_expr;
 pub use exprs::alloc_missing;
 pub use exprs::push_item;
+pub use exprs::set_reference_text;
 pub use exprs::waiting_count;
 pub use header::clear;
 pub use names::add_duplicate;
 pub use names::alloc_name;
+pub use names::set_name_text;
 pub use read_counts::diagnostic_count;
 pub use read_counts::entry;
 pub use read_counts::expr_count;
@@ -40,6 +43,7 @@ pub use read_exprs::expr_pointer;
 pub use read_exprs::item_count;
 pub use read_exprs::read_expr;
 pub use read_exprs::read_item;
+pub use read_exprs::reference_text;
 pub use read_names::name_kind_of;
 pub use read_names::name_pointer;
 pub use read_names::name_text;

@@ -2,40 +2,48 @@
 ghost use mathlib.Core.Path.{_≡_};
 ghost use Prim.Native.Nat.{_≤_};
 ghost use lib.ListN.{length};
-ghost use Rattle.layout.specs.Layout.{Long};
+ghost use Rattle.layout.specs.Layout.{exprLimit, nameLimit, diagnosticLimit, Long};
 ghost use Rattle.layout.specs.States.{exprsOf, namesOf, diagnosticsOf, lostOf, moduleIn};
 ghost use Rattle.store.specs.Readers.{SetEntry};
 use layout::at_most;
+use layout::tables::DIAGNOSTIC_COUNT;
+use layout::tables::DIAGNOSTIC_LIMIT;
+use layout::tables::ENTRY_PLACE;
+use layout::tables::EXPR_COUNT;
+use layout::tables::EXPR_LIMIT;
+use layout::tables::LOST_COUNT;
+use layout::tables::NAME_COUNT;
+use layout::tables::NAME_LIMIT;
 use module::ExprId;
 use words::get32;
 use words::put32;
 
 pub fn expr_count(store: &[u8]) -> u32
     requires { ⌜ Long (now store) ⌝ }
-    ensures { λ r. ⌜ (r ≡ length (exprsOf (now (store .entry)))) × (r ≤ 16384) ⌝ }
+    ensures { λ r. ⌜ (r ≡ length (exprsOf (now (store .entry)))) × (r ≤ exprLimit) ⌝ }
 {
-    at_most(get32(store, 0), 16384)
+    at_most(get32(store, EXPR_COUNT), EXPR_LIMIT)
 }
 
 pub fn name_count(store: &[u8]) -> u32
     requires { ⌜ Long (now store) ⌝ }
-    ensures { λ r. ⌜ (r ≡ length (namesOf (now (store .entry)))) × (r ≤ 4096) ⌝ }
+    ensures { λ r. ⌜ (r ≡ length (namesOf (now (store .entry)))) × (r ≤ nameLimit) ⌝ }
 {
-    at_most(get32(store, 4), 4096)
+    at_most(get32(store, NAME_COUNT), NAME_LIMIT)
 }
 
 pub fn diagnostic_count(store: &[u8]) -> u32
     requires { ⌜ Long (now store) ⌝ }
-    ensures { λ r. ⌜ (r ≡ length (diagnosticsOf (now (store .entry)))) × (r ≤ 32768) ⌝ }
+    ensures { λ r. ⌜ (r ≡ length (diagnosticsOf (now (store .entry)))) × (r ≤ diagnosticLimit) ⌝ }
 {
-    at_most(get32(store, 8), 32768)
+    at_most(get32(store, DIAGNOSTIC_COUNT), DIAGNOSTIC_LIMIT)
 }
 
 pub fn lost_count(store: &[u8]) -> u32
     requires { ⌜ Long (now store) ⌝ }
-    ensures { λ r. ⌜ (r ≡ length (lostOf (now (store .entry)))) × (r ≤ 32768) ⌝ }
+    ensures { λ r. ⌜ (r ≡ length (lostOf (now (store .entry)))) × (r ≤ diagnosticLimit) ⌝ }
 {
-    at_most(get32(store, 12), 32768)
+    at_most(get32(store, LOST_COUNT), DIAGNOSTIC_LIMIT)
 }
 
 // The expression of the whole text.
@@ -43,12 +51,12 @@ pub fn entry(store: &[u8]) -> ExprId
     requires { ⌜ Long (now store) ⌝ }
     ensures { λ r. ⌜ r .0 ≡ moduleIn (now (store .entry)) .entry ⌝ }
 {
-    ExprId(get32(store, 16))
+    ExprId(get32(store, ENTRY_PLACE))
 }
 
 pub fn set_entry(store: &mut [u8], e: ExprId)
     requires { ⌜ Long (now store) ⌝ }
     ensures { λ _. ⌜ SetEntry (e .0) (now (store .entry)) (now (store .exit)) ⌝ }
 {
-    put32(store, 16, e.0);
+    put32(store, ENTRY_PLACE, e.0);
 }

@@ -8,17 +8,15 @@ ghost use Rattle.store.specs.Readers.{diagnosticAt, lostPointerAt};
 use crate::read_counts::diagnostic_count;
 use crate::read_counts::lost_count;
 use layout::get_pointer;
+use layout::tables::ABSENT;
+use layout::tables::DIAGNOSTIC_ROW;
+use layout::tables::DIAGNOSTICS;
+use layout::tables::LOST;
+use layout::tables::POINTER_ROW;
 use layout::wide;
 use module::Pointer;
 use module::TextId;
 use words::get32;
-
-const DIAGNOSTICS: usize = 999508;
-
-const LOST: usize = 1917012;
-
-// The mark, which is the number of the empty text.
-const ABSENT: u32 = 4294967295;
 
 pub fn diagnostic_key(store: &[u8], i: u32) -> TextId
     requires { ⌜ Long (now store) ⌝ }
@@ -27,7 +25,7 @@ pub fn diagnostic_key(store: &[u8], i: u32) -> TextId
     if diagnostic_count(store) <= i {
         return TextId(ABSENT);
     }
-    TextId(get32(store, DIAGNOSTICS + 28 * wide(i)))
+    TextId(get32(store, DIAGNOSTICS + DIAGNOSTIC_ROW * wide(i)))
 }
 
 pub fn diagnostic_first(store: &[u8], i: u32) -> Pointer
@@ -41,7 +39,7 @@ pub fn diagnostic_first(store: &[u8], i: u32) -> Pointer
             to: 0,
         };
     }
-    get_pointer(store, DIAGNOSTICS + 28 * wide(i) + 4)
+    get_pointer(store, DIAGNOSTICS + DIAGNOSTIC_ROW * wide(i) + 4)
 }
 
 pub fn diagnostic_second(store: &[u8], i: u32) -> Pointer
@@ -55,7 +53,7 @@ pub fn diagnostic_second(store: &[u8], i: u32) -> Pointer
             to: 0,
         };
     }
-    get_pointer(store, DIAGNOSTICS + 28 * wide(i) + 16)
+    get_pointer(store, DIAGNOSTICS + DIAGNOSTIC_ROW * wide(i) + 16)
 }
 
 pub fn lost_pointer(store: &[u8], i: u32) -> Pointer
@@ -69,5 +67,5 @@ pub fn lost_pointer(store: &[u8], i: u32) -> Pointer
             to: 0,
         };
     }
-    get_pointer(store, LOST + 12 * wide(i))
+    get_pointer(store, LOST + POINTER_ROW * wide(i))
 }

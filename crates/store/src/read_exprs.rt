@@ -3,8 +3,9 @@ ghost use mathlib.Core.Path.{_≡_};
 ghost use Prim.Native.Nat.{_+_, _≤_};
 ghost use lib.ListN.{length};
 ghost use Rattle.spec.specs.Scopes.{madeAt, exprAt};
-ghost use Rattle.layout.specs.Layout.{Long};
-ghost use Rattle.layout.specs.Texts.{textIn};
+ghost use Rattle.spec.specs.Answer.{referenceText};
+ghost use Rattle.layout.specs.Layout.{itemLimit, Long};
+ghost use Rattle.layout.specs.Texts.{textIn, maybeText};
 ghost use Rattle.layout.specs.Exprs.{itemAt};
 ghost use Rattle.layout.specs.States.{moduleIn};
 ghost use Rattle.store.specs.Codes.{exprWith, itemWith, ValidExpr};
@@ -16,18 +17,24 @@ use crate::decode::item_of;
 use crate::read_counts::expr_count;
 use layout::at_most;
 use layout::get_pointer;
+use layout::tables::EXPR_POINTERS;
+use layout::tables::EXPR_ROW;
+use layout::tables::EXPRS;
+use layout::tables::ITEM_LIMIT;
+use layout::tables::ITEM_ROW;
+use layout::tables::ITEMS;
+use layout::tables::POINTER_ROW;
 use layout::wide;
 use module::Expr;
 use module::ExprId;
 use module::Item;
+use module::MaybeText;
 use module::Pointer;
+use module::TextId;
 use words::get32;
 
-const EXPRS: usize = 64;
-
-const POINTERS: usize = 327764;
-
-const ITEMS: usize = 524372;
+// The sort of a Reference.
+pub const REFERENCE: u32 = 21;
 
 // A Missing may have no pointer.
 pub enum MaybePointer {
@@ -50,7 +57,7 @@ pub fn read_expr(store: &[u8], e: ExprId) -> Expr
     if expr_count(store) <= n {
         return Expr::Missing;
     }
-    let at = EXPRS + 20 * wide(n);
+    let at = EXPRS + EXPR_ROW * wide(n);
     expr_of(Row {
         sort: get32(store, at + 4),
         a: get32(store, at + 8),
@@ -67,10 +74,25 @@ pub fn expr_pointer(store: &[u8], e: ExprId) -> MaybePointer
     if expr_count(store) <= n {
         return MaybePointer::Absent;
     }
-    if get32(store, EXPRS + 20 * wide(n) + 4) == 0 {
+    if get32(store, EXPRS + EXPR_ROW * wide(n) + 4) == 0 {
         return MaybePointer::Absent;
     }
-    MaybePointer::Pointer(get_pointer(store, POINTERS + 12 * wide(n)))
+    MaybePointer::Pointer(get_pointer(store, EXPR_POINTERS + POINTER_ROW * wide(n)))
+}
+
+// The text of a Reference; none of an expression that is no Reference.
+pub fn reference_text(store: &[u8], e: ExprId) -> MaybeText
+    requires { ⌜ Long (now store) ⌝ }
+    ensures { λ r. ⌜ maybeText (now (store .entry)) r ≡ referenceText (exprAt (moduleIn (now (store .entry))) (e .0)) ⌝ }
+{
+    let n = e.0;
+    if expr_count(store) <= n {
+        return MaybeText::Absent;
+    }
+    if get32(store, EXPRS + EXPR_ROW * wide(n) + 4) != REFERENCE {
+        return MaybeText::Absent;
+    }
+    MaybeText::Text(TextId(get32(store, EXPRS + EXPR_ROW * wide(n) + 8)))
 }
 
 // They end where those of the next row begin.
@@ -82,9 +104,9 @@ fn items_of(store: &[u8], e: ExprId) -> Items
     if expr_count(store) <= n {
         return Items { first: 0, count: 0 };
     }
-    let at = EXPRS + 20 * wide(n);
-    let first = at_most(get32(store, at), 32768);
-    let end = at_most(get32(store, at + 20), 32768);
+    let at = EXPRS + EXPR_ROW * wide(n);
+    let first = at_most(get32(store, at), ITEM_LIMIT);
+    let end = at_most(get32(store, at + EXPR_ROW), ITEM_LIMIT);
     if end <= first {
         return Items { first, count: 0 };
     }
@@ -96,7 +118,7 @@ fn items_of(store: &[u8], e: ExprId) -> Items
 
 pub fn item_count(store: &[u8], e: ExprId) -> u32
     requires { ⌜ Long (now store) ⌝ }
-    ensures { λ r. ⌜ (r ≡ length (itemsAtExpr (now (store .entry)) (e .0))) × (r ≤ 32768) ⌝ }
+    ensures { λ r. ⌜ (r ≡ length (itemsAtExpr (now (store .entry)) (e .0))) × (r ≤ itemLimit) ⌝ }
 {
     items_of(store, e).count
 }
@@ -122,5 +144,5 @@ pub fn read_item(store: &[u8], e: ExprId, i: u32) -> Item
     if items.count <= i {
         return Item::Child(ExprId(0));
     }
-    get_item(store, ITEMS + 12 * wide(items.first + i))
+    get_item(store, ITEMS + ITEM_ROW * wide(items.first + i))
 }

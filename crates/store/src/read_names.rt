@@ -8,6 +8,11 @@ ghost use Rattle.layout.specs.Texts.{textIn};
 ghost use Rattle.layout.specs.States.{moduleIn};
 use crate::read_counts::name_count;
 use layout::get_pointer;
+use layout::tables::ABSENT;
+use layout::tables::NAME_POINTERS;
+use layout::tables::NAME_ROW;
+use layout::tables::NAMES;
+use layout::tables::POINTER_ROW;
 use layout::wide;
 use module::NameId;
 use module::NameKind;
@@ -15,13 +20,6 @@ use module::Pointer;
 use module::TextId;
 use module::name_kind;
 use words::get32;
-
-const NAMES: usize = 917588;
-
-const POINTERS: usize = 950356;
-
-// The mark, which is the number of the empty text.
-const ABSENT: u32 = 4294967295;
 
 pub fn name_text(store: &[u8], x: NameId) -> TextId
     requires { ⌜ Long (now store) ⌝ }
@@ -31,7 +29,7 @@ pub fn name_text(store: &[u8], x: NameId) -> TextId
     if name_count(store) <= n {
         return TextId(ABSENT);
     }
-    TextId(get32(store, NAMES + 8 * wide(n)))
+    TextId(get32(store, NAMES + NAME_ROW * wide(n)))
 }
 
 pub fn name_kind_of(store: &[u8], x: NameId) -> NameKind
@@ -42,7 +40,7 @@ pub fn name_kind_of(store: &[u8], x: NameId) -> NameKind
     if name_count(store) <= n {
         return NameKind::PlainAttrset;
     }
-    name_kind(get32(store, NAMES + 8 * wide(n) + 4))
+    name_kind(get32(store, NAMES + NAME_ROW * wide(n) + 4))
 }
 
 pub fn name_pointer(store: &[u8], x: NameId) -> Pointer
@@ -57,5 +55,5 @@ pub fn name_pointer(store: &[u8], x: NameId) -> Pointer
             to: 0,
         };
     }
-    get_pointer(store, POINTERS + 12 * wide(n))
+    get_pointer(store, NAME_POINTERS + POINTER_ROW * wide(n))
 }

@@ -5,11 +5,16 @@ ghost use Prim.Native.Nat.{_+_, _≤_, _<_};
 ghost use lib.ListN.{length};
 ghost use Rattle.spec.specs.Module.{samePointer, pointsTo, exprForNode, nameForNode};
 ghost use Rattle.module.specs.Ids.{exprOf, nameOf, pointerOf};
-ghost use Rattle.layout.specs.Layout.{Long};
+ghost use Rattle.layout.specs.Layout.{exprLimit, Long};
 ghost use Rattle.layout.specs.Exprs.{pointerAt, madeIn};
 ghost use Rattle.layout.specs.States.{moduleIn};
 use crate::read_counts::expr_count;
 use crate::read_counts::name_count;
+use layout::tables::EXPR_POINTERS;
+use layout::tables::EXPR_ROW;
+use layout::tables::EXPRS;
+use layout::tables::NAME_POINTERS;
+use layout::tables::POINTER_ROW;
 use layout::wide;
 use module::ExprId;
 use module::MaybeExpr;
@@ -17,12 +22,6 @@ use module::MaybeName;
 use module::NameId;
 use module::Pointer;
 use words::get32;
-
-const EXPRS: usize = 64;
-
-const EXPR_POINTERS: usize = 327764;
-
-const NAME_POINTERS: usize = 950356;
 
 // Whether the pointer whose row is at `at` is p.
 fn same_pointer(store: &[u8], at: usize, p: Pointer) -> bool
@@ -37,13 +36,13 @@ fn same_pointer(store: &[u8], at: usize, p: Pointer) -> bool
 
 // Whether the expression n has the pointer p. Of sort 0 there is none, whatever its row of pointers holds.
 fn expr_points(store: &[u8], n: ExprId, p: Pointer) -> bool
-    requires { ⌜ Long (now store) × (n .0 < 16384) ⌝ }
+    requires { ⌜ Long (now store) × (n .0 < exprLimit) ⌝ }
     ensures { λ r. ⌜ r ≡ pointsTo (pointerOf p) (madeIn (now (store .entry)) (n .0) .pointer) ⌝ }
 {
-    if get32(store, EXPRS + 20 * wide(n.0) + 4) == 0 {
+    if get32(store, EXPRS + EXPR_ROW * wide(n.0) + 4) == 0 {
         return false;
     }
-    same_pointer(store, EXPR_POINTERS + 12 * wide(n.0), p)
+    same_pointer(store, EXPR_POINTERS + POINTER_ROW * wide(n.0), p)
 }
 
 pub fn expr_for_node(store: &[u8], p: Pointer) -> MaybeExpr
@@ -67,7 +66,7 @@ pub fn name_for_node(store: &[u8], p: Pointer) -> MaybeName
     let mut n = name_count(store);
     while 0 < n {
         n -= 1;
-        if same_pointer(store, NAME_POINTERS + 12 * wide(n), p) {
+        if same_pointer(store, NAME_POINTERS + POINTER_ROW * wide(n), p) {
             return MaybeName::Name(NameId(n));
         }
     }

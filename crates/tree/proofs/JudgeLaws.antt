@@ -10,8 +10,8 @@ use borrow.Author.Tests.{eq-eqb, ne-eqb}
 use Rattle.spec.specs.Basics.{bytes, if_then_else_}
 use Rattle.spec.specs.Sheet.{wrongCount, number, decimal, Judged, accepted, refused, readSheet}
 use Rattle.spec.specs.Tree.{walkTo, wholeTree, judgeTree, judge}
-use Rattle.spec.proofs.Lines.{number-within}
-use Rattle.spec.proofs.Reading.{Sheet, accepted-sheet}
+use Rattle.spec.proofs.reading.Lines.{number-within}
+use Rattle.spec.proofs.reading.Reading.{Sheet, accepted-sheet}
 use Rattle.sheet.specs.Keyed.{numberOf}
 use Rattle.sheet.specs.Sheets.{answer, firstNode, placeOf}
 use Rattle.sheet.proofs.LineLaws.{number-is, field-inside}

@@ -3,6 +3,7 @@ use mathlib.Core.Path.{_≡_, sym, ap, _∙_, subst}
 use mathlib.Core.Bool.{true}
 use mathlib.Core.List.{List, [], _∷_}
 use mathlib.Core.Option.{Option, none, some}
+use mathlib.Mathlib.Data.Bool.Basic.{and-elim-left}
 use Prim.Native.Nat.{ℕ, _+_, _-_, _<_, _≤_}
 use native.Mathlib.Numerals.{add-one}
 use native.Mathlib.Omega.{arith}
@@ -15,7 +16,7 @@ use Rattle.spec.specs.Basics.{NodeId, maybe}
 use Rattle.spec.specs.Sheet as spec
 use Rattle.spec.specs.Sheet.{Node, got, bad, node, allBelow}
 use Rattle.spec.specs.Tree.{nodeAt, nobody}
-use Rattle.spec.proofs.Reading.{Reads, one-more}
+use Rattle.spec.proofs.reading.Reading.{Reads, one-more}
 use Rattle.sheet.specs.Nodes.{gotNode, FormedNode, FormedSpans}
 use Rattle.sheet.specs.declared.position.Fault.{Fault}
 use Rattle.sheet.specs.declared.nodes.Node as row
@@ -25,7 +26,6 @@ use Rattle.sheet.specs.Kids.{shortKids, kidsFrom, StepInside}
 use Rattle.sheet.proofs.KidLaws.{Before, walk-end, walk-malformed, walk-absent, walk-number}
 use Rattle.sheet.specs.declared.kids.KidStep.{KidStep}
 use Rattle.sheet.specs.declared.kids.KidStep.the-variants as step
-use Rattle.words.proofs.Tests.{both-first}
 use Rattle.tree.specs.Nodes.{nodesIn, Stands, kidsAt, Kids, Read, After, Stepped, Fewer, Passed}
 use Rattle.tree.specs.declared.nodes.Kid.{Kid}
 use Rattle.tree.specs.declared.nodes.Kid.the-variants.{End, Absent, Number}
@@ -99,9 +99,9 @@ module _ (s : List ℕ) (nodes n at : ℕ) (count : nodes ≡ length (nodesIn s)
         }
 
 -- ---- a kid
-below-head : (nodes k : ℕ) (ks : List (Option NodeId)) → allBelow nodes (some k ∷ ks) ≡ true → k < nodes
+pub below-head : (nodes k : ℕ) (ks : List (Option NodeId)) → allBelow nodes (some k ∷ ks) ≡ true → k < nodes
 unfolding allBelow
-below-head nodes k ks h = ltb-true k nodes (both-first (ltb k nodes) (allBelow nodes ks) h)
+below-head nodes k ks h = ltb-true k nodes (and-elim-left (ltb k nodes) (allBelow nodes ks) h)
 
 module _ (s : List ℕ) (at end : ℕ) (h : Kids s at end) where
   after : (k : Option NodeId) (next : ℕ) → Before s next end (length (nodesIn s)) k (kidsAt s at end) → (at < next) × (next ≤ end) → After s at end k next

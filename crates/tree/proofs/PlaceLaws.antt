@@ -8,6 +8,7 @@ use lib.Dec.{T, ltb, leb, eqb}
 use lib.ListN.{length, List·getD-eq-default}
 use borrow.Author.Tests.{ltb-true, ltb-false, le-leb, lt-leb}
 use types.Run.{OneOf}
+use mir.Facts.{and-yes}
 use Rattle.spec.specs.Basics.{if_then_else_}
 use Rattle.spec.specs.Tree.{countFits}
 use Rattle.spec.specs.Kinds as Kinds
@@ -22,7 +23,7 @@ use Rattle.tree.specs.declared.places.Places.{Places}
 use Rattle.tree.specs.declared.places.Place.{Place}
 use Rattle.tree.specs.declared.places.Place.the-variants as place
 use Rattle.tree.specs.declared.slots.Slot.{Slot}
-use Rattle.words.proofs.Tests.{both-left, both-right, or-second, allUpTo, at-number, NoneOf, someKey, no-key, AtKeys, at-key}
+use Rattle.words.proofs.Tests.{or-second, allUpTo, at-number, NoneOf, someKey, no-key, AtKeys, at-key}
 
 -- these are the places of the kind with the number
 abbrev pub Has : Counted → Listed → ℕ → Type 0
@@ -57,8 +58,8 @@ bare-listed (some x) h = absurd h
 bare-fills : (p : Places) (d : Kind) → (p .counted ≡ counted.Nothing) × (p .listed ≡ listed.Nothing) → T (bare d) → Fills p d
 bare-fills p d e t =
     record {
-      counted = ap countedOf (e .0) ∙ bare-counted (d .counted) (both-left (bareCounted (d .counted)) (bareListed (d .listed)) t);
-      listed = ap listedOf (e .1) ∙ bare-listed (d .listed) (both-right (bareCounted (d .counted)) (bareListed (d .listed)) t);
+      counted = ap countedOf (e .0) ∙ bare-counted (d .counted) (and-yes (bareCounted (d .counted)) (bareListed (d .listed)) t .0);
+      listed = ap listedOf (e .1) ∙ bare-listed (d .listed) (and-yes (bareCounted (d .counted)) (bareListed (d .listed)) t .1);
     }
 
 -- a number that is no kind

@@ -15,7 +15,7 @@ use Rattle.spec.specs.Tree as spec
 use Rattle.spec.specs.Tree.{nodeAt, met, stopped, thenWalk, countFits, kidFits, walkKids, walkNode, walkTo}
 use Rattle.tree.specs.Places.{countedOf, listedOf, Fills}
 use Rattle.tree.specs.Nodes.{nodesIn, kidsAt, Read, After}
-use Rattle.tree.specs.Walk.{Walks, entering, entered, kidsWalk, Ready, Goes, Stepping, afterKid}
+use Rattle.tree.specs.Walk.{Walks, entering, entered, kidsWalk, TodoStands, Goes, Stepping, afterKid}
 use Rattle.tree.specs.declared.places.Counted.{Counted}
 use Rattle.tree.specs.declared.places.Counted.the-variants.{Nothing}
 use Rattle.tree.specs.declared.places.Listed.{Listed}
@@ -112,7 +112,7 @@ unfolding thenWalk
 then-entered a n f true = refl
 then-entered a n f false = refl
 
-module _ (s : List ℕ) (left : ℕ) (n : NodeId) (t : Todo) (ready : Ready s t) where
+module _ (s : List ℕ) (left : ℕ) (n : NodeId) (t : Todo) (ready : TodoStands s t) where
   abbrev on : List Kinds.Slot → Option Kinds.Slot → List (Option NodeId) → ℕ → spec.Walked
   on = walkKids (nodesIn s) (entering (nodesIn s) left n) n
 
@@ -192,9 +192,9 @@ module _ (s : List ℕ) (left : ℕ) (n : NodeId) (t : Todo) (r : Step) (h : Ste
 -- the kids from somewhere on give what all of them give
 pub record Going (s : List ℕ) (left : ℕ) (n : NodeId) (t u : Todo) : Type 0 where
   pub same : kidsWalk s left n u ≡ kidsWalk s left n t
-  pub ready : Ready s u
+  pub ready : TodoStands s u
 
-pub going-none : {s : List ℕ} {left : ℕ} {n : NodeId} {t : Todo} → Ready s t → Going s left n t t
+pub going-none : {s : List ℕ} {left : ℕ} {n : NodeId} {t : Todo} → TodoStands s t → Going s left n t t
 going-none r = record { same = refl; ready = r }
 
 pub going-more : {s : List ℕ} {left : ℕ} {n : NodeId} {t u v : Todo} → Going s left n t u → Goes s left n u v → Going s left n t v

@@ -9,7 +9,7 @@ use Rattle.words.specs.Runs.{run}
 use Rattle.spec.specs.Basics.{NodeId, maybe}
 use Rattle.spec.specs.Sheet.{Node, Judged, accepted, refused, kidList, allBelow, readSheet}
 use Rattle.spec.specs.Tree.{nodeAt}
-use Rattle.spec.proofs.Reading.{Reads}
+use Rattle.spec.proofs.reading.Reading.{Reads}
 use Rattle.tree.specs.declared.nodes.Lines.{Lines}
 use Rattle.tree.specs.declared.nodes.Kid.{Kid}
 use Rattle.tree.specs.declared.nodes.Kid.the-variants.{End, Absent, Number}

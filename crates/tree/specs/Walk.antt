@@ -46,7 +46,7 @@ unfoldable pub kidsWalk : List ℕ → ℕ → NodeId → Todo → spec.Walked
 kidsWalk s left n t =
     walkKids (nodesIn s) (entering (nodesIn s) left n) n (countedOf (t .counted)) (listedOf (t .listed)) (kidsAt s (t .kid) (t .end)) (t .front .highest)
 
-pub record Ready (s : List ℕ) (t : Todo) : Type 0 where
+pub record TodoStands (s : List ℕ) (t : Todo) : Type 0 where
   pub kids : Kids s (t .kid) (t .end)
   pub place : Stands s (t .front .highest + 1) (t .front .next .at)
 
@@ -54,7 +54,7 @@ pub record Ready (s : List ℕ) (t : Todo) : Type 0 where
 pub record Goes (s : List ℕ) (left : ℕ) (n : NodeId) (t u : Todo) : Type 0 where
   pub same : kidsWalk s left n u ≡ kidsWalk s left n t
   pub onward : t .kid < u .kid
-  pub ready : Ready s u
+  pub ready : TodoStands s u
 
 abbrev pub Stepping : List ℕ → ℕ → NodeId → Todo → Step → Type 0
 Stepping s left n t (Done r) = Walks s (kidsWalk s left n t) r

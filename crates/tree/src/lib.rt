@@ -1,4 +1,4 @@
-// The tree of a syntax sheet, walked depth first: refusals 4 to 7 of document 01.
+// The tree of a syntax sheet, walked depth first: refusals 4 to 7 of document 01 (docs/RULES.md, "The walk").
 //
 // A second pass over the sheet's bytes. It knows the lines through the crate sheet, which kinds a place
 // takes, and how deep a tree may be; it knows no store and writes nothing. A node's number is its place

@@ -8,7 +8,7 @@ ghost use lib.ListN.{length};
 ghost use Rattle.spec.specs.Tree.{walkTo};
 ghost use Rattle.tree.specs.Slots.{slotOf};
 ghost use Rattle.tree.specs.Nodes.{nodesIn, Stands, Read};
-ghost use Rattle.tree.specs.Walk.{Walks, entered, kidsWalk, Ready, Stepping, afterKid};
+ghost use Rattle.tree.specs.Walk.{Walks, entered, kidsWalk, TodoStands, Stepping, afterKid};
 use crate::nodes::Kid;
 use crate::nodes::Lines;
 use crate::nodes::count_kids;
@@ -90,7 +90,7 @@ fn enter(s: &[u8], nodes: u32, n: u32, left: u32, k: u32, slot: Slot, front: Fro
 
 // The first of the kids that are left.
 fn walk_kid(s: &[u8], nodes: u32, n: u32, left: u32, todo: Todo) -> Step
-    requires { ⌜ (nodes ≡ length (nodesIn (now s))) × Ready (now s) todo ⌝ }
+    requires { ⌜ (nodes ≡ length (nodesIn (now s))) × TodoStands (now s) todo ⌝ }
     ensures { λ r. ⌜ Stepping (now (s .entry)) left n todo r ⌝ }
 {
     let counted = todo.counted;
@@ -127,7 +127,7 @@ fn walk_kid(s: &[u8], nodes: u32, n: u32, left: u32, todo: Todo) -> Step
 
 // All kids that are left.
 fn walk_kids(s: &[u8], nodes: u32, n: u32, left: u32, todo: Todo) -> Walked
-    requires { ⌜ (nodes ≡ length (nodesIn (now s))) × Ready (now s) todo ⌝ }
+    requires { ⌜ (nodes ≡ length (nodesIn (now s))) × TodoStands (now s) todo ⌝ }
     ensures { λ r. ⌜ Walks (now (s .entry)) (kidsWalk (now (s .entry)) left n todo) r ⌝ }
 {
     let mut rest = todo;

@@ -8,6 +8,7 @@
 // them, and a line end after it. The first line of the list says what wrote it. It and the titles are read through the
 // Reader, since they are lines of no form; a line with a number is judged as it is read.
 ghost use Prim.Native.Nat.{_≤_};
+use layout::tables::STORE_BYTES;
 use libc::STDIN_FILENO;
 use libc::STDOUT_FILENO;
 use load::load;
@@ -110,7 +111,7 @@ fn ask_about_name(store: &[u8], number: u32, lent: u32, told: u32) {
     print_uses(&buffer, reply_word(&reply, 16));
 }
 
-fn change(store: &mut [u8; 3948672], kind: u32, number: u32, text: &[u8], told: u32) {
+fn change(store: &mut [u8; STORE_BYTES], kind: u32, number: u32, text: &[u8], told: u32) {
     let mut reply = [0u8; 32];
     let told = within(told, 32);
     let refused = if kind == 2 {
@@ -132,7 +133,7 @@ fn run_change(
     number: u32,
     bytes: u32,
     told: u32,
-    store: &mut [u8; 3948672],
+    store: &mut [u8; STORE_BYTES],
 ) -> usize {
     let bytes = bytes as usize;
     if list.len() < at {
@@ -147,7 +148,7 @@ fn run_change(
 }
 
 // One call; gives the place after it.
-fn run_call(list: &[u8], at: usize, store: &mut [u8; 3948672]) -> usize {
+fn run_call(list: &[u8], at: usize, store: &mut [u8; STORE_BYTES]) -> usize {
     let Number::Is(kind, at) = number_at(list, at, b"call=", 3) else {
         return broken(list);
     };
@@ -174,7 +175,7 @@ fn run_call(list: &[u8], at: usize, store: &mut [u8; 3948672]) -> usize {
 }
 
 // All calls of a vector, and what the store tells after them; gives the place after the last.
-fn run_calls(list: &[u8], first: usize, count: u32, store: &mut [u8; 3948672]) -> usize {
+fn run_calls(list: &[u8], first: usize, count: u32, store: &mut [u8; STORE_BYTES]) -> usize {
     let mut at = first;
     for i in 0..count {
         at = run_call(list, at, store);
@@ -185,14 +186,14 @@ fn run_calls(list: &[u8], first: usize, count: u32, store: &mut [u8; 3948672]) -
     at
 }
 
-fn load_and_show(sheet: &[u8], store: &mut [u8; 3948672]) {
+fn load_and_show(sheet: &[u8], store: &mut [u8; STORE_BYTES]) {
     let mut reply = [0u8; 32];
     let refused = load(sheet, store, &mut reply);
     print_load(refused, &reply, store);
 }
 
 // The sheet and the calls of a vector, from the line `sheet=` on; gives how many bytes they take.
-fn run_sheet(list: &[u8], store: &mut [u8; 3948672]) -> usize {
+fn run_sheet(list: &[u8], store: &mut [u8; STORE_BYTES]) -> usize {
     let Number::Is(bytes, start) = number_at(list, 0, b"sheet=", 65536) else {
         return broken(list);
     };
@@ -212,7 +213,7 @@ fn run_sheet(list: &[u8], store: &mut [u8; 3948672]) -> usize {
 }
 
 // Vectors one after the other, until the list ends or one has another form.
-fn run_list(list: &[u8], store: &mut [u8; 3948672]) {
+fn run_list(list: &[u8], store: &mut [u8; STORE_BYTES]) {
     let mut at = after_first_line(list);
     while at < list.len() {
         let title = after_first_line(&list[at..]);
@@ -230,7 +231,7 @@ fn run_list(list: &[u8], store: &mut [u8; 3948672]) {
 }
 
 fn main() {
-    let mut store = [0u8; 3948672];
+    let mut store = [0u8; STORE_BYTES];
     let mut list = [0u8; 524288];
     let n = io::read_full(STDIN_FILENO, &mut list);
     run_list(&list[..n], &mut store);

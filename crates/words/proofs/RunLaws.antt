@@ -5,18 +5,14 @@ use mathlib.Core.List.{List, [], _∷_, _++_}
 use Prim.Native.Nat.{ℕ, zero, suc, _+_, _-_, _≤_, _<_}
 use native.Mathlib.Numerals.{add-one}
 use native.Mathlib.Omega.{arith}
-use lib.ListN.{length, getD, take, drop, set, length-take, length-drop, length-set}
-use lib.Seq.{take-suc, drop-cons, take-length, getD-take, getD-drop, getD-set-same, getD-set-other, set-comm, sets, length-sets, sets-eq, ext-getD}
+use lib.ListN.{length, getD, drop, set, length-take, length-drop, length-set}
+use lib.Seq.{take-suc, drop-cons, take-length, getD-take, getD-drop, getD-set-same, getD-set-other, set-comm, sets, length-sets, ext-getD}
 use Rattle.words.specs.Runs.{run, splice}
 
 -- ---- a run
 pub length-run : (s : List ℕ) (at n : ℕ) → at + n ≤ length s → length (run s at n) ≡ n
 unfolding run
 length-run s at n h = simp (length-take, length-drop) (omega arith)
-
-pub length-run-le : (s : List ℕ) (at n : ℕ) → length (run s at n) ≤ n
-unfolding run
-length-run-le s at n = simp length-take (omega arith)
 
 pub getD-run : (s : List ℕ) (at n i : ℕ) → i < n → getD (run s at n) i 0 ≡ getD s (at + i) 0
 unfolding run
@@ -74,10 +70,6 @@ pub length-splice : (s : List ℕ) (at : ℕ) (xs : List ℕ) → length (splice
 unfolding splice
 length-splice s at xs = length-sets s at xs
 
-pub splice-is : (s : List ℕ) (at : ℕ) (xs : List ℕ) → at + length xs ≤ length s → splice s at xs ≡ take at s ++ xs ++ drop (at + length xs) s
-unfolding splice
-splice-is s at xs h = sets-eq xs s at h
-
 -- a byte outside is as it was
 pub getD-splice-other : (s : List ℕ) (at : ℕ) (xs : List ℕ) (j : ℕ) → (j < at) ⊎ (at + length xs ≤ j) → getD (splice s at xs) j 0 ≡ getD s j 0
 unfolding splice
@@ -117,18 +109,6 @@ pub run-splice-same : (s : List ℕ) (at : ℕ) (xs : List ℕ) → at + length 
 run-splice-same s at xs h =
     let z : at + 0 ≡ at = omega arith in
     (rw z at (run-splice-within s at xs 0 (length xs) h (omega arith))) ∙ run-whole xs
-
--- ---- a run of t copied over s; t may be s itself, as in a move
-module _ (s : List ℕ) (at : ℕ) (t : List ℕ) (from n : ℕ) where
-  pub run-copied : (i m : ℕ) → at + n ≤ length s → from + n ≤ length t → i + m ≤ n → run (splice s at (run t from n)) (at + i) m ≡ run t (from + i) m
-  run-copied i m h k l =
-      let e = length-run t from n k in
-      run-splice-within s at (run t from n) i m (omega arith) (omega arith) ∙ run-run t from n i m k l
-
-  pub run-copied-other : (j m : ℕ) → (j + m ≤ at) ⊎ (at + n ≤ j) → run (splice s at (run t from n)) j m ≡ run s j m
-  run-copied-other j m h =
-      let e = length-run-le t from n in
-      run-splice-other s at (run t from n) j m (⊎-elim (λ l. inl (omega arith)) (λ l. inr (omega arith)) h)
 
 -- ---- one byte more
 -- after what was written

@@ -8,20 +8,9 @@ use native.Mathlib.Nat.{not-suc-le-zero}
 use native.Mathlib.Omega.{arith}
 use lib.Dec.{T, eqb}
 use borrow.Author.Tests.{eqb-true, eqb-false}
+use mir.Facts.{and-yes}
 use mir.Val.{hasKey}
 use types.Run.{OneOf, hit}
-
-pub both-left : (a b : Bool) → T (a && b) → T a
-both-left true b h = tt
-both-left false b h = h
-
-pub both-right : (a b : Bool) → T (a && b) → T b
-both-right true b h = h
-both-right false b h = absurd h
-
-pub both-first : (a b : Bool) → (a && b) ≡ true → a ≡ true
-both-first true b h = refl
-both-first false b h = h
 
 pub or-second : (a b : Bool) → T (a || b) → a ≡ false → T b
 or-second true b h e = let z : _≡_ {A = ℕ} 0 1 = cc in absurd (omega arith)
@@ -34,10 +23,10 @@ allUpTo (suc n) P = P n && allUpTo n P
 
 pub at-number : (n : ℕ) (P : ℕ → Bool) → T (allUpTo n P) → (k : ℕ) → k < n → T (P k)
 at-number zero P h k l = absurd (not-suc-le-zero l)
-at-number (suc n) P h k l = here (eqb k n) refl (at-number n P (both-right (P n) (allUpTo n P) h) k)
+at-number (suc n) P h k l = here (eqb k n) refl (at-number n P (and-yes (P n) (allUpTo n P) h .1) k)
   where
     here : (b : Bool) → eqb k n ≡ b → (k < n → T (P k)) → T (P k)
-    here true e below = rw (eqb-true k n e) (both-left (P n) (allUpTo n P) h)
+    here true e below = rw (eqb-true k n e) (and-yes (P n) (allUpTo n P) h .0)
     here false e below = let other : k ≡ n → ⊥ = eqb-false k n e in below (omega (arith, other))
 
 -- ---- keys of a `match`

@@ -8,7 +8,7 @@ use native.Mathlib.Nat.{pow-succ'}
 use lib.ListN.{length, getD, set, length-take}
 use Rattle.words.specs.Runs.{run, splice}
 use Rattle.words.specs.Words.{number, bytesOf, word, setWord}
-use Rattle.words.proofs.RunLaws.{run-cons, run-run, length-splice, getD-splice-other, run-splice-other, run-splice-within, run-splice-same, run-copied, run-copied-other}
+use Rattle.words.proofs.RunLaws.{run-cons, run-run, length-splice, run-splice-other, run-splice-within, run-splice-same}
 
 -- ---- a number and its bytes
 pub number-lt : (xs : List ℕ) (k : ℕ) → length xs ≤ k → number xs < 256 ^ k
@@ -66,16 +66,6 @@ pub word-splice-within : (s : List ℕ) (at : ℕ) (xs : List ℕ) (i : ℕ) →
 unfolding word
 word-splice-within s at xs i h k = ap number (run-splice-within s at xs i 4 h k)
 
--- ---- a run of t copied over s; t may be s itself, as in a move
-module _ (s : List ℕ) (at : ℕ) (t : List ℕ) (from n : ℕ) where
-  pub word-copied : (i : ℕ) → at + n ≤ length s → from + n ≤ length t → i + 4 ≤ n → word (splice s at (run t from n)) (at + i) ≡ word t (from + i)
-  unfolding word
-  word-copied i h k l = ap number (run-copied s at t from n i 4 h k l)
-
-  pub word-copied-other : (j : ℕ) → (j + 4 ≤ at) ⊎ (at + n ≤ j) → word (splice s at (run t from n)) j ≡ word s j
-  unfolding word
-  word-copied-other j h = ap number (run-copied-other s at t from n j 4 h)
-
 -- ---- a list with a word written over
 -- the four stores
 pub setWord-bytes : (s : List ℕ) (at v : ℕ)
@@ -105,10 +95,6 @@ run-setWord-other s at v j n h = run-splice-other s at (bytesOf 4 v) j n (rw (le
 pub word-setWord-other : (s : List ℕ) (at v j : ℕ) → (j + 4 ≤ at) ⊎ (at + 4 ≤ j) → word (setWord s at v) j ≡ word s j
 unfolding setWord
 word-setWord-other s at v j h = word-splice-other s at (bytesOf 4 v) j (rw (length-bytesOf 4 v) h)
-
-pub getD-setWord-other : (s : List ℕ) (at v j : ℕ) → (j < at) ⊎ (at + 4 ≤ j) → getD (setWord s at v) j 0 ≡ getD s j 0
-unfolding setWord
-getD-setWord-other s at v j h = getD-splice-other s at (bytesOf 4 v) j (rw (length-bytesOf 4 v) h)
 
 -- ---- a number that is cut to a word
 same-bytes : (v w : ℕ) → v % 256 ≡ w % 256 → v / 256 % 256 ≡ w / 256 % 256 → v / 256 / 256 % 256 ≡ w / 256 / 256 % 256 → v / 256 / 256 / 256 % 256 ≡ w / 256 / 256 / 256 % 256 → bytesOf 4 v ≡ bytesOf 4 w

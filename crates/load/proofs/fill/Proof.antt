@@ -1,4 +1,4 @@
--- `load::fill` meets its contract. Written by a script from tools/answers_load.txt. Assumes nothing.
+-- `load::fill` meets its contract. Written by a script from tools/answers/load.txt. Assumes nothing.
 use borrow.Author.Needs.{needs}
 use Rattle.load.proofs.FillLaws.{fills}
 use Rattle.load.proofs.fill.Statement.{statement}

@@ -1,4 +1,4 @@
--- `load::load` meets its contract. Written by a script from tools/answers_load.txt. Assumes nothing.
+-- `load::load` meets its contract. Written by a script from tools/answers/load.txt. Assumes nothing.
 use native.Mathlib.Omega.{arith}
 use borrow.Author.Needs.{needs}
 use Rattle.load.proofs.LoadLaws.{reply-too-short, store-too-short, sheet-refused, sheet-accepted}

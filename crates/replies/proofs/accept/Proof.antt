@@ -1,4 +1,4 @@
--- `replies::accept` meets its contract. Written by a script from tools/answers_replies.txt. Assumes nothing.
+-- `replies::accept` meets its contract. Written by a script from tools/answers/replies.txt. Assumes nothing.
 use borrow.Author.Needs.{needs}
 use Rattle.replies.proofs.ReplyLaws.{done}
 use Rattle.replies.proofs.accept.Statement.{statement}

@@ -1,4 +1,4 @@
--- `replies::refuse` meets its contract. Written by a script from tools/answers_replies.txt. Assumes nothing.
+-- `replies::refuse` meets its contract. Written by a script from tools/answers/replies.txt. Assumes nothing.
 use borrow.Author.Needs.{needs}
 use Rattle.replies.proofs.ReplyLaws.{refused}
 use Rattle.replies.proofs.refuse.Statement.{statement}

@@ -1,4 +1,4 @@
--- `replies::tell_answer` meets its contract. Written by a script from tools/answers_replies.txt. Assumes nothing.
+-- `replies::tell_answer` meets its contract. Written by a script from tools/answers/replies.txt. Assumes nothing.
 use borrow.Author.Needs.{needs}
 use Rattle.replies.proofs.ReplyLaws.{told-answer}
 use Rattle.replies.proofs.tell_answer.Statement.{statement}

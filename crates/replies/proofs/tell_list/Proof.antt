@@ -1,4 +1,4 @@
--- `replies::tell_list` meets its contract. Written by a script from tools/answers_replies.txt. Assumes nothing.
+-- `replies::tell_list` meets its contract. Written by a script from tools/answers/replies.txt. Assumes nothing.
 use borrow.Author.Needs.{needs}
 use Rattle.replies.proofs.ReplyLaws.{told-list}
 use Rattle.replies.proofs.tell_list.Statement.{statement}

@@ -1,4 +1,4 @@
--- `vectors::run_calls` meets its contract. Written by a script from tools/answers_vectors.txt. Assumes nothing.
+-- `vectors::run_calls` meets its contract. Written by a script from tools/answers/vectors.txt. Assumes nothing.
 use borrow.Author.Needs.{needs}
 use native.Mathlib.Omega.{arith}
 use Prim.Native.Nat.{_≤_, _-_}

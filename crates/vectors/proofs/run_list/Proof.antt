@@ -1,4 +1,4 @@
--- `vectors::run_list` meets its contract. Written by a script from tools/answers_vectors.txt. Assumes nothing.
+-- `vectors::run_list` meets its contract. Written by a script from tools/answers/vectors.txt. Assumes nothing.
 use lib.ListN.{length}
 use borrow.Author.Needs.{needs}
 use native.Mathlib.Omega.{arith}

@@ -1,4 +1,4 @@
--- `builtins::lookup::is_name` meets its contract. Written by a script from tools/answers_builtins.txt. Assumes nothing.
+-- `builtins::lookup::is_name` meets its contract. Written by a script from tools/answers/builtins.txt. Assumes nothing.
 use lib.Seq.{length-take-le}
 use mathlib.Core.Path.{sym}
 use borrow.Author.Needs.{needs}

@@ -1,4 +1,4 @@
--- `builtins::lookup::lookup_global_builtin` meets its contract. Written by a script from tools/answers_builtins.txt. Assumes nothing.
+-- `builtins::lookup::lookup_global_builtin` meets its contract. Written by a script from tools/answers/builtins.txt. Assumes nothing.
 use lib.ListN.{drop}
 use native.Mathlib.Omega.{arith}
 use Prim.Native.Nat.{_-_}

@@ -1,4 +1,4 @@
--- `builtins::table::first_at` meets its contract. Written by a script from tools/answers_builtins.txt. Assumes nothing.
+-- `builtins::table::first_at` meets its contract. Written by a script from tools/answers/builtins.txt. Assumes nothing.
 use mathlib.Core.Path.{refl}
 use borrow.Author.Needs.{needs}
 use Rattle.builtins.specs.Table.{firsts}

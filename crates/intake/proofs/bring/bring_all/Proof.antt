@@ -1,4 +1,4 @@
--- `intake::bring::bring_all` meets its contract. Written by a script from tools/answers_intake.txt. Assumes nothing.
+-- `intake::bring::bring_all` meets its contract. Written by a script from tools/answers/intake.txt. Assumes nothing.
 use Prim.Native.Nat.{_-_}
 use native.Mathlib.Omega.{arith}
 use borrow.Author.Needs.{needs}

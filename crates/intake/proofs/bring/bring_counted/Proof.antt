@@ -1,4 +1,4 @@
--- `intake::bring::bring_counted` meets its contract. Written by a script from tools/answers_intake.txt. Assumes nothing.
+-- `intake::bring::bring_counted` meets its contract. Written by a script from tools/answers/intake.txt. Assumes nothing.
 use borrow.Author.Needs.{needs}
 use Rattle.intake.proofs.BringLaws.{bringing-start, stopped-brought, all-brought, all-is-in, all-is-not}
 use Rattle.intake.proofs.bring.bring_counted.Statement.{statement}

@@ -1,4 +1,4 @@
--- `intake::bring::bring_nodes` meets its contract. Written by a script from tools/answers_intake.txt. Assumes nothing.
+-- `intake::bring::bring_nodes` meets its contract. Written by a script from tools/answers/intake.txt. Assumes nothing.
 use borrow.Author.Needs.{needs}
 use Rattle.intake.proofs.BringLaws.{count-bad, counted}
 use Rattle.intake.proofs.bring.bring_nodes.Statement.{statement}

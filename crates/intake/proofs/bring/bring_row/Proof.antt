@@ -1,4 +1,4 @@
--- `intake::bring::bring_row` meets its contract. Written by a script from tools/answers_intake.txt. Assumes nothing.
+-- `intake::bring::bring_row` meets its contract. Written by a script from tools/answers/intake.txt. Assumes nothing.
 use borrow.Author.Needs.{needs}
 use Rattle.intake.proofs.BringRowLaws.{kids-are, kids-not, text-are, text-not, row-brought, kids-over, text-over}
 use Rattle.intake.proofs.bring.bring_row.Statement.{statement}

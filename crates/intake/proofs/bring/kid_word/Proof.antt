@@ -1,4 +1,4 @@
--- `intake::bring::kid_word` meets its contract. Written by a script from tools/answers_intake.txt. Assumes nothing.
+-- `intake::bring::kid_word` meets its contract. Written by a script from tools/answers/intake.txt. Assumes nothing.
 use borrow.Author.Needs.{needs}
 use Rattle.intake.proofs.BringKidLaws.{word-end, word-absent, word-number, never-malformed}
 use Rattle.intake.proofs.bring.kid_word.Statement.{statement}

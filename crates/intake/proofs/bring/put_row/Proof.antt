@@ -1,4 +1,4 @@
--- `intake::bring::put_row` meets its contract. Written by a script from tools/answers_intake.txt. Assumes nothing.
+-- `intake::bring::put_row` meets its contract. Written by a script from tools/answers/intake.txt. Assumes nothing.
 use borrow.Author.Needs.{needs}
 use Rattle.intake.proofs.BringRowLaws.{row-put}
 use Rattle.intake.proofs.bring.put_row.Statement.{statement}

@@ -1,4 +1,4 @@
--- `intake::nodes::first_kid` meets its contract. Written by a script from tools/answers_intake.txt. Assumes nothing.
+-- `intake::nodes::first_kid` meets its contract. Written by a script from tools/answers/intake.txt. Assumes nothing.
 use borrow.Author.Needs.{needs}
 use Rattle.intake.proofs.NodeLaws.{first-from}
 use Rattle.intake.proofs.nodes.first_kid.Statement.{statement}

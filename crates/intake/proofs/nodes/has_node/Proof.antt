@@ -1,4 +1,4 @@
--- `intake::nodes::has_node` meets its contract. Written by a script from tools/answers_intake.txt. Assumes nothing.
+-- `intake::nodes::has_node` meets its contract. Written by a script from tools/answers/intake.txt. Assumes nothing.
 use borrow.Author.Needs.{needs}
 use Rattle.intake.proofs.NodeLaws.{count-from}
 use Rattle.intake.proofs.nodes.has_node.Statement.{statement}

@@ -1,4 +1,4 @@
--- `intake::nodes::kid` meets its contract. Written by a script from tools/answers_intake.txt. Assumes nothing.
+-- `intake::nodes::kid` meets its contract. Written by a script from tools/answers/intake.txt. Assumes nothing.
 use native.Mathlib.Omega.{arith}
 use borrow.Author.Needs.{needs}
 use Rattle.intake.proofs.NodeLaws.{kid-none, kid-row, kid-place, kid-from}

@@ -1,4 +1,4 @@
--- `intake::nodes::kid_at` meets its contract. Written by a script from tools/answers_intake.txt. Assumes nothing.
+-- `intake::nodes::kid_at` meets its contract. Written by a script from tools/answers/intake.txt. Assumes nothing.
 use borrow.Author.Needs.{needs}
 use Rattle.intake.proofs.NodeLaws.{kid-marked, kid-number}
 use Rattle.module.specs.Ids.{nodeOf}

@@ -1,4 +1,4 @@
--- `intake::nodes::kid_count` meets its contract. Written by a script from tools/answers_intake.txt. Assumes nothing.
+-- `intake::nodes::kid_count` meets its contract. Written by a script from tools/answers/intake.txt. Assumes nothing.
 use borrow.Author.Tests.{not-true, not-false}
 use native.Mathlib.Omega.{arith}
 use borrow.Author.Needs.{needs}

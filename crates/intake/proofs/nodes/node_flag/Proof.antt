@@ -1,4 +1,4 @@
--- `intake::nodes::node_flag` meets its contract. Written by a script from tools/answers_intake.txt. Assumes nothing.
+-- `intake::nodes::node_flag` meets its contract. Written by a script from tools/answers/intake.txt. Assumes nothing.
 use mathlib.Core.Path.{_∙_}
 use borrow.Author.Needs.{needs}
 use Rattle.intake.proofs.NodeLaws.{flag-is}

@@ -1,4 +1,4 @@
--- `intake::nodes::node_text` meets its contract. Written by a script from tools/answers_intake.txt. Assumes nothing.
+-- `intake::nodes::node_text` meets its contract. Written by a script from tools/answers/intake.txt. Assumes nothing.
 use borrow.Author.Needs.{needs}
 use Rattle.intake.proofs.NodeLaws.{has-in, has-out, text-is, text-none}
 use Rattle.intake.proofs.nodes.node_text.Statement.{statement}

@@ -1,4 +1,4 @@
--- `intake::nodes::node_word` meets its contract. Written by a script from tools/answers_intake.txt. Assumes nothing.
+-- `intake::nodes::node_word` meets its contract. Written by a script from tools/answers/intake.txt. Assumes nothing.
 use mathlib.Core.Path.{sym, _∙_}
 use native.Mathlib.Omega.{arith}
 use borrow.Author.Needs.{needs}

@@ -1,8 +1,9 @@
--- `kept::answers::kept_answer` meets its contract. Written by a script from tools/answers_kept.txt. Assumes nothing.
+-- `kept::answers::kept_answer` meets its contract. Written by a script from tools/answers/kept.txt. Assumes nothing.
 use native.Mathlib.Omega.{arith}
 use borrow.Author.Needs.{needs}
 use Rattle.kept.proofs.AnswerLaws.{kept-out, kept-other, kept-is}
 use Rattle.layout.proofs.RowLaws.{cap-lim}
+use Rattle.layout.specs.Layout.{exprLimit, exprCount}
 use Rattle.words.specs.Words.{word}
 use Rattle.kept.proofs.answers.kept_answer.Statement.{statement}
 use Rattle.kept.proofs.answers.kept_answer.Tie as tie
@@ -26,7 +27,7 @@ add-get32-2 : tie.Need-add-get32-2
 add-get32-2 c = search needs
 
 get32-requires : tie.Need-get32-requires
-get32-requires c κs = omega (arith, c .wide .ensures, cap-lim (word (c .before .before .before .before .args .store .now) 0) 16384)
+get32-requires c κs = omega (arith, c .wide .ensures, cap-lim (word (c .before .before .before .before .args .store .now) exprCount) exprLimit)
 
 returns-2 : tie.Need-returns-2
 returns-2 c = kept-other _ _ _ _ _ (c .before .before .before .before .in-use .ensures) (c .before .before .before .if1 .left) (rw (c .before .before .wide .ensures) at (c .before .get32 .ensures)) (c .if2 .taken)
@@ -44,7 +45,7 @@ add-get32-4 : tie.Need-add-get32-4
 add-get32-4 c = search needs
 
 get32-requires-2 : tie.Need-get32-requires-2
-get32-requires-2 c κs = omega (arith, c .wide2 .ensures, cap-lim (word (c .before .before .before .before .before .before .before .args .store .now) 0) 16384)
+get32-requires-2 c κs = omega (arith, c .wide2 .ensures, cap-lim (word (c .before .before .before .before .before .before .before .args .store .now) exprCount) exprLimit)
 
 answer-of-requires : tie.Need-answer-of-requires
 answer-of-requires c κs = search needs

@@ -1,17 +1,18 @@
--- `kept::answers::set_answer` meets its contract. Written by a script from tools/answers_kept.txt. Assumes nothing.
+-- `kept::answers::set_answer` meets its contract. Written by a script from tools/answers/kept.txt. Assumes nothing.
 use native.Mathlib.Omega.{arith}
 use borrow.Author.Needs.{needs}
-use Rattle.kept.proofs.AnswerLaws.{no-number, no-expr, kept-now}
+use Rattle.kept.proofs.AnswerLaws.{no-word, no-expr, kept-now}
 use Rattle.layout.proofs.RowLaws.{cap-lim}
+use Rattle.layout.specs.Layout.{exprLimit, exprCount}
 use Rattle.words.specs.Words.{word}
 use Rattle.kept.proofs.answers.set_answer.Statement.{statement}
 use Rattle.kept.proofs.answers.set_answer.Tie as tie
 
-number-of-requires : tie.Need-number-of-requires
-number-of-requires c κs = search needs
+answer-word-requires : tie.Need-answer-word-requires
+answer-word-requires c κs = search needs
 
 returns : tie.Need-returns
-returns c = no-number _ _ _ _ (c .before .number-of .ensures) (c .if1 .taken)
+returns c = no-word _ _ _ _ (c .before .answer-word .ensures) (c .if1 .taken)
 
 in-use-requires : tie.Need-in-use-requires
 in-use-requires c κs = search needs
@@ -20,7 +21,7 @@ same-length : tie.Need-same-length
 same-length c = search needs
 
 returns-2 : tie.Need-returns-2
-returns-2 c = no-expr _ _ _ _ _ (c .before .in-use .ensures) (c .if2 .taken) (c .before .before .before .before .number-of .ensures) (c .before .before .before .if1 .left)
+returns-2 c = no-expr _ _ _ _ _ (c .before .in-use .ensures) (c .if2 .taken) (c .before .before .before .before .answer-word .ensures) (c .before .before .before .if1 .left)
 
 wide-requires : tie.Need-wide-requires
 wide-requires c κs = search needs
@@ -35,19 +36,19 @@ add-put32-2 : tie.Need-add-put32-2
 add-put32-2 c = search needs
 
 put32-requires : tie.Need-put32-requires
-put32-requires c κs = omega (arith, c .wide .ensures, cap-lim (word (c .before .before .before .before .before .before .before .before .args .store .now) 0) 16384)
+put32-requires c κs = omega (arith, c .wide .ensures, cap-lim (word (c .before .before .before .before .before .before .before .before .args .store .now) exprCount) exprLimit)
 
 same-length-2 : tie.Need-same-length-2
 same-length-2 c = search needs
 
 returns-3 : tie.Need-returns-3
-returns-3 c = kept-now _ _ _ _ _ _ (c .before .before .before .before .before .before .before .before .before .before .before .pre) (c .before .before .before .before .before .before .in-use .ensures) (c .before .before .before .before .before .if2 .left) (c .before .before .before .before .before .before .before .before .before .number-of .ensures) (c .before .before .before .before .before .before .before .before .if1 .left) (search needs) (rw (c .before .before .before .wide .ensures) at (c .before .before .put32 .ensures))
+returns-3 c = kept-now _ _ _ _ _ _ (c .before .before .before .before .before .before .before .before .before .before .before .pre) (c .before .before .before .before .before .before .in-use .ensures) (c .before .before .before .before .before .if2 .left) (c .before .before .before .before .before .before .before .before .before .answer-word .ensures) (c .before .before .before .before .before .before .before .before .if1 .left) (search needs) (rw (c .before .before .before .wide .ensures) at (c .before .before .put32 .ensures))
 
 pub set-answer-spec : {M : Type 1} → statement M
 set-answer-spec =
     tie.close
     (tie.spec
-    number-of-requires
+    answer-word-requires
     returns
     in-use-requires
     same-length

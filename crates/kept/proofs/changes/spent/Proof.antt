@@ -1,4 +1,4 @@
--- `kept::changes::spent` meets its contract. Written by a script from tools/answers_kept.txt. Assumes nothing.
+-- `kept::changes::spent` meets its contract. Written by a script from tools/answers/kept.txt. Assumes nothing.
 use borrow.Author.Needs.{needs}
 use Rattle.kept.proofs.ChangeLaws.{spent-is}
 use Rattle.kept.proofs.changes.spent.Statement.{statement}

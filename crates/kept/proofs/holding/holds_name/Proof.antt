@@ -1,4 +1,4 @@
--- `kept::holding::holds_name` meets its contract. Written by a script from tools/answers_kept.txt. Assumes nothing.
+-- `kept::holding::holds_name` meets its contract. Written by a script from tools/answers/kept.txt. Assumes nothing.
 use native.Mathlib.Omega.{arith}
 use Prim.Native.Nat.{_-_}
 use mathlib.Core.Path.{_≡_, refl, sym, _∙_}

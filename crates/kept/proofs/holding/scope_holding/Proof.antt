@@ -1,4 +1,4 @@
--- `kept::holding::scope_holding` meets its contract. Written by a script from tools/answers_kept.txt. Assumes nothing.
+-- `kept::holding::scope_holding` meets its contract. Written by a script from tools/answers/kept.txt. Assumes nothing.
 use native.Mathlib.Omega.{arith}
 use Prim.Native.Nat.{_-_}
 use mathlib.Core.Path.{_≡_}
@@ -6,6 +6,7 @@ use Rattle.kept.proofs.HoldingLaws.{scopes-begun, scope-found, scope-pa
 use Rattle.layout.proofs.RowLaws.{cap-lim}
 use Rattle.layout.specs.Keeps.{scopeIn, scopesIn}
 use Rattle.layout.specs.Rows.{rowsFrom}
+use Rattle.layout.specs.Layout.{scopeLimit, scopeCount}
 use Rattle.module.specs.Ids.{scopeOf}
 use Rattle.spec.specs.Scopes.{holder, holderFrom}
 use Rattle.words.specs.Words.{word}
@@ -25,7 +26,7 @@ loop-holds : tie.Need-loop-holds Inv-loop μ-loop
 loop-holds c = scopes-begun _ _ _ (c .in-use .ensures)
 
 holds-name-requires : tie.Need-holds-name-requires Inv-loop μ-loop
-holds-name-requires c κs = (c .before .before .before .before .pre, omega (arith, c .loop-test .taken, c .before .before .in-use .ensures, cap-lim (word (c .before .before .before .before .args .store .now) 20) 4096))
+holds-name-requires c κs = (c .before .before .before .before .pre, omega (arith, c .loop-test .taken, c .before .before .in-use .ensures, cap-lim (word (c .before .before .before .before .args .store .now) scopeCount) scopeLimit))
 
 returns : tie.Need-returns Inv-loop μ-loop
 unfolding scopeOf

@@ -1,4 +1,4 @@
--- `kept::limits::in_use` meets its contract. Written by a script from tools/answers_kept.txt. Assumes nothing.
+-- `kept::limits::in_use` meets its contract. Written by a script from tools/answers/kept.txt. Assumes nothing.
 use borrow.Author.Needs.{needs}
 use Rattle.kept.proofs.limits.in_use.Statement.{statement}
 use Rattle.kept.proofs.limits.in_use.Tie as tie

@@ -1,4 +1,4 @@
--- `kept::limits::raised_expr` meets its contract. Written by a script from tools/answers_kept.txt. Assumes nothing.
+-- `kept::limits::raised_expr` meets its contract. Written by a script from tools/answers/kept.txt. Assumes nothing.
 use mathlib.Core.Path.{sym}
 use borrow.Author.Needs.{needs}
 use Rattle.kept.proofs.ScopeReads.{raised-none, raised-some}

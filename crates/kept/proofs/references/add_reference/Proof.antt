@@ -1,4 +1,4 @@
--- `kept::references::add_reference` meets its contract. Written by a script from tools/answers_kept.txt. Assumes nothing.
+-- `kept::references::add_reference` meets its contract. Written by a script from tools/answers/kept.txt. Assumes nothing.
 use native.Mathlib.Omega.{arith}
 use borrow.Author.Needs.{needs}
 use Rattle.kept.proofs.ReferenceLaws.{no-name, no-room, refers}

@@ -1,4 +1,4 @@
--- `kept::references::clear_references` meets its contract. Written by a script from tools/answers_kept.txt. Assumes nothing.
+-- `kept::references::clear_references` meets its contract. Written by a script from tools/answers/kept.txt. Assumes nothing.
 use borrow.Author.Needs.{needs}
 use Rattle.kept.proofs.ReferenceLaws.{unlisted}
 use Rattle.kept.proofs.references.clear_references.Statement.{statement}

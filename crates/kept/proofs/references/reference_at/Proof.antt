@@ -1,4 +1,4 @@
--- `kept::references::reference_at` meets its contract. Written by a script from tools/answers_kept.txt. Assumes nothing.
+-- `kept::references::reference_at` meets its contract. Written by a script from tools/answers/kept.txt. Assumes nothing.
 use native.Mathlib.Omega.{arith}
 use mathlib.Core.Option.{some}
 use mathlib.Core.Path.{sym, ap, _∙_}

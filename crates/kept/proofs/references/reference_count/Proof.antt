@@ -1,8 +1,9 @@
--- `kept::references::reference_count` meets its contract. Written by a script from tools/answers_kept.txt. Assumes nothing.
+-- `kept::references::reference_count` meets its contract. Written by a script from tools/answers/kept.txt. Assumes nothing.
 use native.Mathlib.Omega.{arith}
 use borrow.Author.Needs.{needs}
 use Rattle.kept.proofs.ReferenceLaws.{none-listed, some-listed}
 use Rattle.layout.proofs.RowLaws.{cap-lim}
+use Rattle.layout.specs.Layout.{nameLimit, nameCount}
 use Rattle.words.specs.Words.{word}
 use Rattle.kept.proofs.references.reference_count.Statement.{statement}
 use Rattle.kept.proofs.references.reference_count.Tie as tie
@@ -23,7 +24,7 @@ add-in-use : tie.Need-add-in-use
 add-in-use c = search needs
 
 in-use-requires-2 : tie.Need-in-use-requires-2
-in-use-requires-2 c κs = omega (arith, c .wide .ensures, cap-lim (word (c .before .before .before .before .args .store .now) 4) 4096)
+in-use-requires-2 c κs = omega (arith, c .wide .ensures, cap-lim (word (c .before .before .before .before .args .store .now) nameCount) nameLimit)
 
 wide-requires-2 : tie.Need-wide-requires-2
 wide-requires-2 c κs = search needs
@@ -38,7 +39,7 @@ add-in-use-3 : tie.Need-add-in-use-3
 add-in-use-3 c = search needs
 
 in-use-requires-3 : tie.Need-in-use-requires-3
-in-use-requires-3 c κs = omega (arith, c .wide2 .ensures, cap-lim (word (c .before .before .before .before .before .before .args .store .now) 4) 4096)
+in-use-requires-3 c κs = omega (arith, c .wide2 .ensures, cap-lim (word (c .before .before .before .before .before .before .args .store .now) nameCount) nameLimit)
 
 less-requires : tie.Need-less-requires
 less-requires c κs = search needs

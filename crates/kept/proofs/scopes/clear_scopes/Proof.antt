@@ -1,8 +1,9 @@
--- `kept::scopes::clear_scopes` meets its contract. Written by a script from tools/answers_kept.txt. Assumes nothing.
+-- `kept::scopes::clear_scopes` meets its contract. Written by a script from tools/answers/kept.txt. Assumes nothing.
 use native.Mathlib.Omega.{arith}
 use borrow.Author.Needs.{needs}
 use Rattle.kept.proofs.ScopeLaws.{emptied}
 use Rattle.layout.proofs.RowLaws.{cap-lim}
+use Rattle.layout.specs.Layout.{exprLimit, exprCount}
 use Rattle.words.specs.Words.{word}
 use Rattle.kept.proofs.scopes.clear_scopes.Statement.{statement}
 use Rattle.kept.proofs.scopes.clear_scopes.Tie as tie
@@ -11,7 +12,7 @@ in-use-requires : tie.Need-in-use-requires
 in-use-requires c κs = search needs
 
 clear-uses-requires : tie.Need-clear-uses-requires
-clear-uses-requires c κs = omega (arith, cap-lim (word (c .before .before .before .before .args .store .now) 0) 16384)
+clear-uses-requires c κs = omega (arith, cap-lim (word (c .before .before .before .before .args .store .now) exprCount) exprLimit)
 
 put32-requires : tie.Need-put32-requires
 put32-requires c κs = omega (arith, c .before .before .before .clear-uses .ensures .wrote .size)

@@ -1,4 +1,4 @@
--- `kept::scopes::clear_uses` meets its contract. Written by a script from tools/answers_kept.txt. Assumes nothing.
+-- `kept::scopes::clear_uses` meets its contract. Written by a script from tools/answers/kept.txt. Assumes nothing.
 use Prim.Native.Nat.{_-_, _≤_}
 use native.Mathlib.Omega.{arith}
 use Rattle.kept.proofs.ScopeLaws.{unplaced-none, unplaced-more, unplaced-done}

@@ -1,8 +1,9 @@
--- `kept::scopes::enter_name` meets its contract. Written by a script from tools/answers_kept.txt. Assumes nothing.
+-- `kept::scopes::enter_name` meets its contract. Written by a script from tools/answers/kept.txt. Assumes nothing.
 use native.Mathlib.Omega.{arith}
 use borrow.Author.Needs.{needs}
 use Rattle.kept.proofs.ScopeLaws.{not-waiting, waiting}
 use Rattle.layout.proofs.RowLaws.{cap-lim}
+use Rattle.layout.specs.Layout.{scopeLimit, scopeCount}
 use Rattle.words.specs.Words.{word}
 use Rattle.kept.proofs.scopes.enter_name.Statement.{statement}
 use Rattle.kept.proofs.scopes.enter_name.Tie as tie
@@ -20,7 +21,7 @@ add-get32 : tie.Need-add-get32
 add-get32 c = search needs
 
 get32-requires : tie.Need-get32-requires
-get32-requires c κs = omega (arith, c .wide .ensures, c .before .before .in-use .ensures, cap-lim (word (c .before .before .before .before .before .args .store .now) 20) 4096)
+get32-requires c κs = omega (arith, c .wide .ensures, c .before .before .in-use .ensures, cap-lim (word (c .before .before .before .before .before .args .store .now) scopeCount) scopeLimit)
 
 wide-requires-2 : tie.Need-wide-requires-2
 wide-requires-2 c κs = search needs

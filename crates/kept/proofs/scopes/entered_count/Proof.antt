@@ -1,12 +1,10 @@
--- `kept::scopes::entered_count` meets its contract. Written by a script from tools/answers_kept.txt. Assumes nothing.
-use mathlib.Core.Path.{sym, _∙_}
-use mathlib.Core.Path.{sym, _∙_}
-use mathlib.Core.Path.{sym, _∙_}
+-- `kept::scopes::entered_count` meets its contract. Written by a script from tools/answers/kept.txt. Assumes nothing.
 use native.Mathlib.Omega.{arith}
 use mathlib.Core.Path.{sym, _∙_}
 use borrow.Author.Needs.{needs}
 use Rattle.kept.proofs.ScopeReads.{count-none, no-names, with-names, count-own, below-cap, above-cap}
 use Rattle.layout.proofs.RowLaws.{cap-lim}
+use Rattle.layout.specs.Layout.{scopeLimit, scopeCount}
 use Rattle.words.specs.Words.{word}
 use Rattle.kept.proofs.scopes.entered_count.Statement.{statement}
 use Rattle.kept.proofs.scopes.entered_count.Tie as tie
@@ -30,7 +28,7 @@ add-get32-2 : tie.Need-add-get32-2
 add-get32-2 c = search needs
 
 get32-requires : tie.Need-get32-requires
-get32-requires c κs = omega (arith, c .wide .ensures, cap-lim (word (c .before .before .before .before .args .store .now) 20) 4096)
+get32-requires c κs = omega (arith, c .wide .ensures, cap-lim (word (c .before .before .before .before .args .store .now) scopeCount) scopeLimit)
 
 returns-2 : tie.Need-returns-2
 returns-2 c = count-none _ _ (with-names _ _ (below-cap _ _ _ (c .before .before .before .before .in-use .ensures) (c .before .before .before .if1 .left)) (λ z. c .if2 .taken (rw (c .before .before .wide .ensures) at (c .before .get32 .ensures) ∙ z)))
@@ -45,7 +43,7 @@ add-in-use : tie.Need-add-in-use
 add-in-use c = search needs
 
 in-use-requires-2 : tie.Need-in-use-requires-2
-in-use-requires-2 c κs = omega (arith, c .wide2 .ensures, cap-lim (word (c .before .before .before .before .before .before .before .args .store .now) 20) 4096)
+in-use-requires-2 c κs = omega (arith, c .wide2 .ensures, cap-lim (word (c .before .before .before .before .before .before .before .args .store .now) scopeCount) scopeLimit)
 
 wide-requires-3 : tie.Need-wide-requires-3
 wide-requires-3 c κs = search needs
@@ -60,7 +58,7 @@ add-in-use-3 : tie.Need-add-in-use-3
 add-in-use-3 c = search needs
 
 in-use-requires-3 : tie.Need-in-use-requires-3
-in-use-requires-3 c κs = omega (arith, c .wide3 .ensures, cap-lim (word (c .before .before .before .before .before .before .before .before .before .args .store .now) 20) 4096)
+in-use-requires-3 c κs = omega (arith, c .wide3 .ensures, cap-lim (word (c .before .before .before .before .before .before .before .before .before .args .store .now) scopeCount) scopeLimit)
 
 less-requires : tie.Need-less-requires
 less-requires c κs = search needs

@@ -1,9 +1,10 @@
--- `kept::scopes::open_with` meets its contract. Written by a script from tools/answers_kept.txt. Assumes nothing.
+-- `kept::scopes::open_with` meets its contract. Written by a script from tools/answers/kept.txt. Assumes nothing.
 use mathlib.Core.Path.{refl}
 use borrow.Author.Tests.{not-true, not-false}
 use native.Mathlib.Omega.{arith}
 use borrow.Author.Needs.{needs}
 use Rattle.kept.proofs.ScopeLaws.{room-count, full-count, scopes-full, outer-unfit, with-unfit, with-more}
+use Rattle.layout.specs.Layout.{scopeLimit}
 use Rattle.module.proofs.CounterLaws.{room-left}
 use Rattle.kept.proofs.scopes.open_with.Statement.{statement}
 use Rattle.kept.proofs.scopes.open_with.Tie as tie
@@ -42,7 +43,7 @@ add-get32 : tie.Need-add-get32
 add-get32 c = search needs
 
 get32-requires : tie.Need-get32-requires
-get32-requires c κs = omega (arith, c .wide .ensures, room-left (c .before .before .before .before .before .has-room .result) (c .before .before .before .before .before .before .counter .result .used) 4096 (c .before .before .before .before .before .has-room .ensures) (not-false _ (c .before .before .before .before .if1 .left)))
+get32-requires c κs = omega (arith, c .wide .ensures, room-left (c .before .before .before .before .before .has-room .result) (c .before .before .before .before .before .before .counter .result .used) scopeLimit (c .before .before .before .before .before .has-room .ensures) (not-false _ (c .before .before .before .before .if1 .left)))
 
 add-put-scope : tie.Need-add-put-scope
 add-put-scope c = search needs

@@ -1,8 +1,9 @@
--- `kept::scopes::place_expr` meets its contract. Written by a script from tools/answers_kept.txt. Assumes nothing.
+-- `kept::scopes::place_expr` meets its contract. Written by a script from tools/answers/kept.txt. Assumes nothing.
 use native.Mathlib.Omega.{arith}
 use borrow.Author.Needs.{needs}
 use Rattle.kept.proofs.ScopeLaws.{unplaced, nothing-placed, placed}
 use Rattle.layout.proofs.RowLaws.{cap-lim}
+use Rattle.layout.specs.Layout.{exprLimit, exprCount}
 use Rattle.words.specs.Words.{word}
 use Rattle.kept.proofs.scopes.place_expr.Statement.{statement}
 use Rattle.kept.proofs.scopes.place_expr.Tie as tie
@@ -32,7 +33,7 @@ add-put32-2 : tie.Need-add-put32-2
 add-put32-2 c = search needs
 
 put32-requires : tie.Need-put32-requires
-put32-requires c κs = omega (arith, c .wide .ensures, cap-lim (word (c .before .before .before .before .before .before .before .args .store .now) 0) 16384)
+put32-requires c κs = omega (arith, c .wide .ensures, cap-lim (word (c .before .before .before .before .before .before .before .args .store .now) exprCount) exprLimit)
 
 same-length-2 : tie.Need-same-length-2
 same-length-2 c = search needs

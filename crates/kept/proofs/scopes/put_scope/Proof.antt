@@ -1,4 +1,4 @@
--- `kept::scopes::put_scope` meets its contract. Written by a script from tools/answers_kept.txt. Assumes nothing.
+-- `kept::scopes::put_scope` meets its contract. Written by a script from tools/answers/kept.txt. Assumes nothing.
 use native.Mathlib.Omega.{arith}
 use borrow.Author.Needs.{needs}
 use Rattle.kept.proofs.ScopeLaws.{scope-put}

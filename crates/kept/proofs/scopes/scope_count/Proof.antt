@@ -1,4 +1,4 @@
--- `kept::scopes::scope_count` meets its contract. Written by a script from tools/answers_kept.txt. Assumes nothing.
+-- `kept::scopes::scope_count` meets its contract. Written by a script from tools/answers/kept.txt. Assumes nothing.
 use mathlib.Core.Path.{sym, _∙_}
 use borrow.Author.Needs.{needs}
 use Rattle.kept.proofs.ScopeReads.{length-scopes}

@@ -1,10 +1,11 @@
--- `kept::scopes::scope_of` meets its contract. Written by a script from tools/answers_kept.txt. Assumes nothing.
+-- `kept::scopes::scope_of` meets its contract. Written by a script from tools/answers/kept.txt. Assumes nothing.
 use native.Mathlib.Omega.{arith}
 use mathlib.Core.Path.{sym, ap, _∙_}
 use borrow.Author.Needs.{needs}
 use Rattle.kept.proofs.ScopeReads.{of-expr-in, of-expr-out, below-cap, above-cap}
 use Rattle.layout.proofs.RowLaws.{cap-lim}
 use Rattle.layout.specs.Rows.{raised}
+use Rattle.layout.specs.Layout.{exprLimit, exprCount}
 use Rattle.words.specs.Words.{word}
 use Rattle.module.specs.Ids.{scopeOf}
 use Rattle.kept.proofs.scopes.scope_of.Statement.{statement}
@@ -23,7 +24,7 @@ add-get32 : tie.Need-add-get32
 add-get32 c = search needs
 
 get32-requires : tie.Need-get32-requires
-get32-requires c κs = omega (arith, c .wide .ensures, cap-lim (word (c .before .before .before .before .args .store .now) 0) 16384)
+get32-requires c κs = omega (arith, c .wide .ensures, cap-lim (word (c .before .before .before .before .args .store .now) exprCount) exprLimit)
 
 raised-scope-requires : tie.Need-raised-scope-requires
 raised-scope-requires c κs = search needs

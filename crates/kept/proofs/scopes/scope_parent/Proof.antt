@@ -1,4 +1,4 @@
--- `kept::scopes::scope_parent` meets its contract. Written by a script from tools/answers_kept.txt. Assumes nothing.
+-- `kept::scopes::scope_parent` meets its contract. Written by a script from tools/answers/kept.txt. Assumes nothing.
 use mathlib.Core.Path.{sym, ap, _∙_}
 use borrow.Author.Needs.{needs}
 use Rattle.kept.proofs.ScopeReads.{parent-is}

@@ -1,4 +1,4 @@
--- `keys::ast_utils::flatten_paren` meets its contract. Written by a script from tools/answers_keys.txt. Assumes nothing.
+-- `keys::ast_utils::flatten_paren` meets its contract. Written by a script from tools/answers/keys.txt. Assumes nothing.
 use borrow.Author.Needs.{needs}
 use Rattle.keys.proofs.ParenLaws.{Flattening, flattening-start, flattening-more, flattened-none, flattened-out, flattened-other}
 use Rattle.module.specs.Ids.{nodeOf}

@@ -1,4 +1,4 @@
--- `keys::ast_utils::get_str_literal` meets its contract. Written by a script from tools/answers_keys.txt. Assumes nothing.
+-- `keys::ast_utils::get_str_literal` meets its contract. Written by a script from tools/answers/keys.txt. Assumes nothing.
 use borrow.Author.Needs.{needs}
 use Rattle.keys.proofs.KeyLaws.{parts-none, parts-more, part-literal, part-other}
 use Rattle.keys.proofs.ItemLaws.{next-end, next-first}

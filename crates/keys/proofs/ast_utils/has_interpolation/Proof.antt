@@ -1,4 +1,4 @@
--- `keys::ast_utils::has_interpolation` meets its contract. Written by a script from tools/answers_keys.txt. Assumes nothing.
+-- `keys::ast_utils::has_interpolation` meets its contract. Written by a script from tools/answers/keys.txt. Assumes nothing.
 use lib.ListN.{length}
 use Prim.Native.Nat.{_-_}
 use native.Mathlib.Omega.{arith}

@@ -1,4 +1,4 @@
--- `keys::ast_utils::name_of_ident` meets its contract. Written by a script from tools/answers_keys.txt. Assumes nothing.
+-- `keys::ast_utils::name_of_ident` meets its contract. Written by a script from tools/answers/keys.txt. Assumes nothing.
 use borrow.Author.Needs.{needs}
 use Rattle.keys.proofs.KeyLaws.{ident-named, ident-nameless}
 use Rattle.layout.specs.Texts.{maybeText}

@@ -1,4 +1,4 @@
--- `keys::ast_utils::str_key` meets its contract. Written by a script from tools/answers_keys.txt. Assumes nothing.
+-- `keys::ast_utils::str_key` meets its contract. Written by a script from tools/answers/keys.txt. Assumes nothing.
 use borrow.Author.Needs.{needs}
 use Rattle.keys.proofs.KeyLaws.{key-text, key-parts}
 use Rattle.keys.specs.AstUtils.{attrKindOf}

@@ -1,4 +1,4 @@
--- `keys::items::next_item` meets its contract. Written by a script from tools/answers_keys.txt. Assumes nothing.
+-- `keys::items::next_item` meets its contract. Written by a script from tools/answers/keys.txt. Assumes nothing.
 use Prim.Native.Nat.{_-_}
 use native.Mathlib.Omega.{arith}
 use borrow.Author.Needs.{needs}

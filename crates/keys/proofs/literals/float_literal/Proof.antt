@@ -1,4 +1,4 @@
--- `keys::literals::float_literal` meets its contract. Written by a script from tools/answers_keys.txt. Assumes nothing.
+-- `keys::literals::float_literal` meets its contract. Written by a script from tools/answers/keys.txt. Assumes nothing.
 use borrow.Author.Needs.{needs}
 use Rattle.keys.proofs.LiteralLaws.{float-none, float-over, float-there}
 use Rattle.keys.proofs.literals.float_literal.Statement.{statement}

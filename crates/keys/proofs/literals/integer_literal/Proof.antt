@@ -1,4 +1,4 @@
--- `keys::literals::integer_literal` meets its contract. Written by a script from tools/answers_keys.txt. Assumes nothing.
+-- `keys::literals::integer_literal` meets its contract. Written by a script from tools/answers/keys.txt. Assumes nothing.
 use mathlib.Core.Path.{refl}
 use borrow.Author.Needs.{needs}
 use Rattle.keys.proofs.LiteralLaws.{integer-over, integer-there}

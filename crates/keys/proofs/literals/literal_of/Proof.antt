@@ -1,4 +1,4 @@
--- `keys::literals::literal_of` meets its contract. Written by a script from tools/answers_keys.txt. Assumes nothing.
+-- `keys::literals::literal_of` meets its contract. Written by a script from tools/answers/keys.txt. Assumes nothing.
 use borrow.Author.Needs.{needs}
 use Rattle.keys.proofs.LiteralLaws.{literal-float, literal-integer, literal-other}
 use Rattle.keys.proofs.literals.literal_of.Statement.{statement}

@@ -1,4 +1,4 @@
--- `keys::literals::number_in` meets its contract. Written by a script from tools/answers_keys.txt. Assumes nothing.
+-- `keys::literals::number_in` meets its contract. Written by a script from tools/answers/keys.txt. Assumes nothing.
 use Prim.Native.Nat.{_-_}
 use borrow.Author.Needs.{needs}
 use Rattle.keys.proofs.NumberLaws.{Counting, counting-start, counting-more, counting-end}

@@ -1,4 +1,4 @@
--- `keys::literals::one_more` meets its contract. Written by a script from tools/answers_keys.txt. Assumes nothing.
+-- `keys::literals::one_more` meets its contract. Written by a script from tools/answers/keys.txt. Assumes nothing.
 use mathlib.Core.Path.{sym, ap, _∙_}
 use borrow.Author.Needs.{needs}
 use Rattle.keys.specs.Literals.{capped, oneMore}

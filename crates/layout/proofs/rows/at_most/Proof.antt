@@ -1,4 +1,4 @@
--- `layout::rows::at_most` meets its contract. Written by a script from tools/answers_layout.txt. Assumes nothing.
+-- `layout::rows::at_most` meets its contract. Written by a script from tools/answers/layout.txt. Assumes nothing.
 use mathlib.Core.Path.{sym}
 use native.Mathlib.Omega.{arith}
 use Rattle.layout.proofs.RowLaws.{cap-le, cap-above}

@@ -1,4 +1,4 @@
--- `layout::rows::get_pointer` meets its contract. Written by a script from tools/answers_layout.txt. Assumes nothing.
+-- `layout::rows::get_pointer` meets its contract. Written by a script from tools/answers/layout.txt. Assumes nothing.
 use borrow.Author.Needs.{needs}
 use Rattle.layout.proofs.Frames.{pointer-got}
 use Rattle.layout.proofs.rows.get_pointer.Statement.{statement}

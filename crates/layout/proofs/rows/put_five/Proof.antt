@@ -1,4 +1,4 @@
--- `layout::rows::put_five` meets its contract. Written by a script from tools/answers_layout.txt. Assumes nothing.
+-- `layout::rows::put_five` meets its contract. Written by a script from tools/answers/layout.txt. Assumes nothing.
 use borrow.Author.Needs.{needs}
 use Rattle.layout.proofs.WriteLaws.{five-is}
 use Rattle.layout.proofs.rows.put_five.Statement.{statement}

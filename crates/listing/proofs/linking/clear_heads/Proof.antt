@@ -1,4 +1,4 @@
--- `listing::linking::clear_heads` meets its contract. Written by a script from tools/answers_listing.txt. Assumes nothing.
+-- `listing::linking::clear_heads` meets its contract. Written by a script from tools/answers/listing.txt. Assumes nothing.
 use Prim.Native.Nat.{_-_, _≤_}
 use native.Mathlib.Omega.{arith}
 use Rattle.listing.proofs.LinkLaws.{unheaded-none, unheaded-more, unheaded-done}

@@ -1,12 +1,13 @@
--- `listing::linking::link_all` meets its contract. Written by a script from tools/answers_listing.txt. Assumes nothing.
+-- `listing::linking::link_all` meets its contract. Written by a script from tools/answers/listing.txt. Assumes nothing.
 use Prim.Native.Nat.{_≤_}
 use native.Mathlib.Omega.{arith}
 use Rattle.listing.proofs.LinkLaws.{Linking, linking-none, linking-more, linking-done}
+use Rattle.layout.specs.Layout.{exprLimit}
 use Rattle.listing.proofs.linking.link_all.Statement.{statement}
 use Rattle.listing.proofs.linking.link_all.Tie as tie
 
 abbrev Inv-loop : tie.InvT-loop
-Inv-loop store₀ n count left₀ store left = Linking n left store₀ store × (left ≤ count) × (count ≤ 16384)
+Inv-loop store₀ n count left₀ store left = Linking n left store₀ store × (left ≤ count) × (count ≤ exprLimit)
 
 abbrev μ-loop : tie.MeasureT-loop
 μ-loop store₀ n count left₀ store left = left

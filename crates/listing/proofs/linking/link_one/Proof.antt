@@ -1,4 +1,4 @@
--- `listing::linking::link_one` meets its contract. Written by a script from tools/answers_listing.txt. Assumes nothing.
+-- `listing::linking::link_one` meets its contract. Written by a script from tools/answers/listing.txt. Assumes nothing.
 use mathlib.Core.Path.{sym, ap, _∙_}
 use borrow.Author.Needs.{needs}
 use Rattle.listing.proofs.LinkLaws.{links-none, links-past, links-one}

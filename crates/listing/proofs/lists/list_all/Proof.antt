@@ -1,4 +1,4 @@
--- `listing::lists::list_all` meets its contract. Written by a script from tools/answers_listing.txt. Assumes nothing.
+-- `listing::lists::list_all` meets its contract. Written by a script from tools/answers/listing.txt. Assumes nothing.
 use Prim.Native.Nat.{_-_, _≤_}
 use native.Mathlib.Omega.{arith}
 use Rattle.listing.proofs.ListingLaws.{Listing, listing-none, ready, listing-more, listing-done}

@@ -1,4 +1,4 @@
--- `listing::lists::list_one` meets its contract. Written by a script from tools/answers_listing.txt. Assumes nothing.
+-- `listing::lists::list_one` meets its contract. Written by a script from tools/answers/listing.txt. Assumes nothing.
 use lib.ListN.{length}
 use Prim.Native.Nat.{_-_}
 use native.Mathlib.Omega.{arith}

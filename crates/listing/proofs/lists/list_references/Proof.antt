@@ -1,4 +1,4 @@
--- `listing::lists::list_references` meets its contract. Written by a script from tools/answers_listing.txt. Assumes nothing.
+-- `listing::lists::list_references` meets its contract. Written by a script from tools/answers/listing.txt. Assumes nothing.
 use native.Mathlib.Omega.{arith}
 use borrow.Author.Needs.{needs}
 use Rattle.listing.proofs.ListingLaws.{linked-now, listed-anew}

@@ -1,6 +1,6 @@
--- `listing::meaning::name_meant` meets its contract. Written by a script from tools/answers_listing.txt. Assumes nothing.
+-- `listing::meaning::name_meant` meets its contract. Written by a script from tools/answers/listing.txt. Assumes nothing.
 use borrow.Author.Needs.{needs}
-use Rattle.listing.proofs.MeantLaws.{meant-kept, meant-absent}
+use Rattle.answer.proofs.MeantLaws.{meant-kept, meant-absent}
 use Rattle.module.specs.Ids.{nameOf}
 use Rattle.listing.proofs.meaning.name_meant.Statement.{statement}
 use Rattle.listing.proofs.meaning.name_meant.Tie as tie
@@ -11,14 +11,14 @@ kept-answer-requires c κs = search needs
 enum-known-a : tie.Need-enum-known-a
 enum-known-a c = search needs
 
-definition-of-requires : tie.Need-definition-of-requires
-definition-of-requires c κs = search needs
+name-of-answer-requires : tie.Need-name-of-answer-requires
+name-of-answer-requires c κs = search needs
 
 enum-told : tie.Need-enum-told
 enum-told c = search needs
 
 returns : tie.Need-returns
-returns c = meant-kept _ _ _ _ _ (c .before .before .a .given .1) (c .before .before .before .before .kept-answer .ensures) (c .definition-of .ensures)
+returns c = meant-kept _ _ _ _ _ (c .before .before .a .given .1) (c .before .before .before .before .kept-answer .ensures) (c .name-of-answer .ensures)
 
 returns-2 : tie.Need-returns-2
 unfolding nameOf
@@ -27,4 +27,10 @@ returns-2 c = meant-absent _ _ _ (c .enum-told .given .1) (c .before .before .ke
 pub name-meant-spec : {M : Type 1} → statement M
 name-meant-spec =
     tie.close
-    (tie.spec kept-answer-requires enum-known-a definition-of-requires enum-told returns returns-2)
+    (tie.spec
+    kept-answer-requires
+    enum-known-a
+    name-of-answer-requires
+    enum-told
+    returns
+    returns-2)

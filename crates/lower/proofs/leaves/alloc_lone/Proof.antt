@@ -1,4 +1,4 @@
--- `lower::leaves::alloc_lone` meets its contract. Written by a script from tools/answers_lower.txt. Assumes nothing.
+-- `lower::leaves::alloc_lone` meets its contract. Written by a script from tools/answers/lower.txt. Assumes nothing.
 use borrow.Author.Needs.{needs}
 use Rattle.lower.proofs.LeafLaws.{lone-taken}
 use Rattle.lower.proofs.leaves.alloc_lone.Statement.{statement}

@@ -1,4 +1,4 @@
--- `lower::leaves::ident` meets its contract. Written by a script from tools/answers_lower.txt. Assumes nothing.
+-- `lower::leaves::ident` meets its contract. Written by a script from tools/answers/lower.txt. Assumes nothing.
 use native.Mathlib.Omega.{arith}
 use borrow.Author.Needs.{needs}
 use Rattle.lower.proofs.LeafLaws.{ident-taken, ident-hole}

@@ -1,4 +1,4 @@
--- `lower::leaves::lower_name` meets its contract. Written by a script from tools/answers_lower.txt. Assumes nothing.
+-- `lower::leaves::lower_name` meets its contract. Written by a script from tools/answers/lower.txt. Assumes nothing.
 use borrow.Author.Needs.{needs}
 use Rattle.lower.proofs.LeafLaws.{name-taken, name-absent}
 use Rattle.module.specs.Ids.{nameOf}

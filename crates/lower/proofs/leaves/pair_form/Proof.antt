@@ -1,4 +1,4 @@
--- `lower::leaves::pair_form` meets its contract. Written by a script from tools/answers_lower.txt. Assumes nothing.
+-- `lower::leaves::pair_form` meets its contract. Written by a script from tools/answers/lower.txt. Assumes nothing.
 use Rattle.lower.proofs.LeafLaws.{form-apply, form-with, form-assert}
 use Rattle.lower.proofs.leaves.pair_form.Statement.{statement}
 use Rattle.lower.proofs.leaves.pair_form.Tie as tie

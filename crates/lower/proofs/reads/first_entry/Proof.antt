@@ -1,4 +1,4 @@
--- `lower::reads::first_entry` meets its contract. Written by a script from tools/answers_lower.txt. Assumes nothing.
+-- `lower::reads::first_entry` meets its contract. Written by a script from tools/answers/lower.txt. Assumes nothing.
 use borrow.Author.Needs.{needs}
 use Rattle.lower.proofs.ReadLaws.{entries-after, entries-all}
 use Rattle.lower.proofs.reads.first_entry.Statement.{statement}

@@ -1,4 +1,4 @@
--- `lower::reads::into_nested` meets its contract. Written by a script from tools/answers_lower.txt. Assumes nothing.
+-- `lower::reads::into_nested` meets its contract. Written by a script from tools/answers/lower.txt. Assumes nothing.
 use borrow.Author.Needs.{needs}
 use Rattle.lower.proofs.ReadLaws.{into-unlike, into-merged, into-new}
 use Rattle.lower.proofs.reads.into_nested.Statement.{statement}

@@ -1,4 +1,4 @@
--- `lower::reads::into_set` meets its contract. Written by a script from tools/answers_lower.txt. Assumes nothing.
+-- `lower::reads::into_set` meets its contract. Written by a script from tools/answers/lower.txt. Assumes nothing.
 use borrow.Author.Needs.{needs}
 use Rattle.lower.proofs.ReadLaws.{into-node, into-none}
 use Rattle.lower.proofs.reads.into_set.Statement.{statement}

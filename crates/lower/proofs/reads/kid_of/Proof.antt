@@ -1,4 +1,4 @@
--- `lower::reads::kid_of` meets its contract. Written by a script from tools/answers_lower.txt. Assumes nothing.
+-- `lower::reads::kid_of` meets its contract. Written by a script from tools/answers/lower.txt. Assumes nothing.
 use borrow.Author.Needs.{needs}
 use Rattle.lower.proofs.ReadLaws.{kid-of-node, kid-of-none}
 use Rattle.module.specs.Ids.{nodeOf}

@@ -1,4 +1,4 @@
--- `lower::reads::next_in` meets its contract. Written by a script from tools/answers_lower.txt. Assumes nothing.
+-- `lower::reads::next_in` meets its contract. Written by a script from tools/answers/lower.txt. Assumes nothing.
 use borrow.Author.Needs.{needs}
 use Rattle.lower.proofs.ReadLaws.{next-node, next-none}
 use Rattle.lower.proofs.reads.next_in.Statement.{statement}

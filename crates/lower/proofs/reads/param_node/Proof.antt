@@ -1,4 +1,4 @@
--- `lower::reads::param_node` meets its contract. Written by a script from tools/answers_lower.txt. Assumes nothing.
+-- `lower::reads::param_node` meets its contract. Written by a script from tools/answers/lower.txt. Assumes nothing.
 use borrow.Author.Needs.{needs}
 use Rattle.lower.proofs.ReadLaws.{param-ident, param-pattern}
 use Rattle.lower.proofs.reads.param_node.Statement.{statement}

@@ -1,4 +1,4 @@
--- `lower::reads::param_of` meets its contract. Written by a script from tools/answers_lower.txt. Assumes nothing.
+-- `lower::reads::param_of` meets its contract. Written by a script from tools/answers/lower.txt. Assumes nothing.
 use borrow.Author.Needs.{needs}
 use Rattle.lower.proofs.ReadLaws.{param-node, param-none}
 use Rattle.lower.proofs.reads.param_of.Statement.{statement}

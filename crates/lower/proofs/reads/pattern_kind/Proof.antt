@@ -1,4 +1,4 @@
--- `lower::reads::pattern_kind` meets its contract. Written by a script from tools/answers_lower.txt. Assumes nothing.
+-- `lower::reads::pattern_kind` meets its contract. Written by a script from tools/answers/lower.txt. Assumes nothing.
 use borrow.Author.Needs.{needs}
 use Rattle.lower.proofs.ReadLaws.{pattern-open, pattern-closed}
 use Rattle.lower.proofs.reads.pattern_kind.Statement.{statement}

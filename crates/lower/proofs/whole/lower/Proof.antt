@@ -1,4 +1,4 @@
--- `lower::whole::lower` meets its contract. Written by a script from tools/answers_lower.txt. Assumes nothing.
+-- `lower::whole::lower` meets its contract. Written by a script from tools/answers/lower.txt. Assumes nothing.
 use borrow.Author.Needs.{needs}
 use Rattle.lower.proofs.ModuleLaws.{lowered-all}
 use Rattle.lower.proofs.whole.lower.Statement.{statement}

@@ -1,4 +1,4 @@
--- `merge::finish::finish_nested` meets its contract. Written by a script from tools/answers_merge.txt. Assumes nothing.
+-- `merge::finish::finish_nested` meets its contract. Written by a script from tools/answers/merge.txt. Assumes nothing.
 use borrow.Author.Needs.{needs}
 use Rattle.merge.proofs.FinishLaws.{nested-whole}
 use Rattle.merge.proofs.finish.finish_nested.Statement.{statement}

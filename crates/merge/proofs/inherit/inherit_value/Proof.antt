@@ -1,4 +1,4 @@
--- `merge::inherit::inherit_value` meets its contract. Written by a script from tools/answers_merge.txt. Assumes nothing.
+-- `merge::inherit::inherit_value` meets its contract. Written by a script from tools/answers/merge.txt. Assumes nothing.
 use borrow.Author.Needs.{needs}
 use Rattle.module.specs.Ids.{exprOf}
 use Rattle.merge.proofs.inherit.inherit_value.Statement.{statement}

@@ -1,4 +1,4 @@
--- `merge::inherit::inherited_from` meets its contract. Written by a script from tools/answers_merge.txt. Assumes nothing.
+-- `merge::inherit::inherited_from` meets its contract. Written by a script from tools/answers/merge.txt. Assumes nothing.
 use native.Mathlib.Omega.{arith}
 use borrow.Author.Needs.{needs}
 use Rattle.merge.proofs.InheritSteps.{inherits-from}

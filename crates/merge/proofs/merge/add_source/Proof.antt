@@ -1,12 +1,12 @@
--- `merge::merge::add_source` meets its contract. Written by a script from tools/answers_merge.txt. Assumes nothing.
+-- `merge::merge::add_source` meets its contract. Written by a script from tools/answers/merge.txt. Assumes nothing.
 use borrow.Author.Needs.{needs}
 use Rattle.merge.proofs.SetSteps.{source-added}
-use Rattle.merging.specs.Entries.{entryWith, Held}
+use Rattle.open_sets.specs.Entries.{entryWith, Storable}
 use Rattle.merge.proofs.merge.add_source.Statement.{statement}
 use Rattle.merge.proofs.merge.add_source.Tie as tie
 
 add-entry-requires : tie.Need-add-entry-requires
-unfolding Held
+unfolding Storable
 add-entry-requires c κs = (c .before .before .pre, tt)
 
 same-length : tie.Need-same-length

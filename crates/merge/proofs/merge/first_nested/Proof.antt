@@ -1,8 +1,8 @@
--- `merge::merge::first_nested` meets its contract. Written by a script from tools/answers_merge.txt. Assumes nothing.
+-- `merge::merge::first_nested` meets its contract. Written by a script from tools/answers/merge.txt. Assumes nothing.
 use native.Mathlib.Omega.{arith}
 use borrow.Author.Needs.{needs}
 use Rattle.merge.proofs.KeySteps.{nested-first}
-use Rattle.merging.specs.Entries.{entryWith, Held, HeldSet, maybeSetOf, maybeValueOf}
+use Rattle.open_sets.specs.Entries.{entryWith, Storable, HeldSet, maybeSetOf, maybeValueOf}
 use Rattle.module.specs.Kinds.{kindOf}
 use Rattle.merge.proofs.merge.first_nested.Statement.{statement}
 use Rattle.merge.proofs.merge.first_nested.Tie as tie
@@ -14,7 +14,7 @@ open-set-requires : tie.Need-open-set-requires
 open-set-requires c κs = search needs
 
 add-entry-requires : tie.Need-add-entry-requires
-unfolding Held HeldSet
+unfolding Storable HeldSet
 add-entry-requires c κs = (omega arith, omega (arith, c .before .before .before .open-set .ensures .1))
 
 same-length : tie.Need-same-length

@@ -1,8 +1,8 @@
--- `merge::merge::first_value` meets its contract. Written by a script from tools/answers_merge.txt. Assumes nothing.
+-- `merge::merge::first_value` meets its contract. Written by a script from tools/answers/merge.txt. Assumes nothing.
 use native.Mathlib.Omega.{arith}
 use borrow.Author.Needs.{needs}
 use Rattle.merge.proofs.KeySteps.{value-first}
-use Rattle.merging.specs.Entries.{entryWith, Held, HeldSet, maybeSetOf, maybeValueOf}
+use Rattle.open_sets.specs.Entries.{entryWith, Storable, HeldSet, maybeSetOf, maybeValueOf}
 use Rattle.merge.proofs.merge.first_value.Statement.{statement}
 use Rattle.merge.proofs.merge.first_value.Tie as tie
 
@@ -10,7 +10,7 @@ name-key-requires : tie.Need-name-key-requires
 name-key-requires c κs = search needs
 
 add-entry-requires : tie.Need-add-entry-requires
-unfolding Held HeldSet
+unfolding Storable HeldSet
 add-entry-requires c κs = (omega arith, tt)
 
 same-length : tie.Need-same-length

@@ -1,7 +1,7 @@
--- `merge::merge::get_or_create_nested_static` meets its contract. Written by a script from tools/answers_merge.txt. Assumes nothing.
+-- `merge::merge::get_or_create_nested_static` meets its contract. Written by a script from tools/answers/merge.txt. Assumes nothing.
 use borrow.Author.Needs.{needs}
 use Rattle.merge.proofs.KeySteps.{nested-new, nested-again}
-use Rattle.merging.specs.Run.{maybeEntryOf}
+use Rattle.open_sets.specs.Run.{maybeEntryOf}
 use Rattle.merge.proofs.merge.get_or_create_nested_static.Statement.{statement}
 use Rattle.merge.proofs.merge.get_or_create_nested_static.Tie as tie
 

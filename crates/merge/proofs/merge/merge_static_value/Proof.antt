@@ -1,7 +1,7 @@
--- `merge::merge::merge_static_value` meets its contract. Written by a script from tools/answers_merge.txt. Assumes nothing.
+-- `merge::merge::merge_static_value` meets its contract. Written by a script from tools/answers/merge.txt. Assumes nothing.
 use borrow.Author.Needs.{needs}
 use Rattle.merge.proofs.KeySteps.{value-new, value-again}
-use Rattle.merging.specs.Run.{maybeEntryOf}
+use Rattle.open_sets.specs.Run.{maybeEntryOf}
 use Rattle.merge.proofs.merge.merge_static_value.Statement.{statement}
 use Rattle.merge.proofs.merge.merge_static_value.Tie as tie
 

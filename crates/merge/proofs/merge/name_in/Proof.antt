@@ -1,6 +1,6 @@
--- `merge::merge::name_in` meets its contract. Written by a script from tools/answers_merge.txt. Assumes nothing.
+-- `merge::merge::name_in` meets its contract. Written by a script from tools/answers/merge.txt. Assumes nothing.
 use borrow.Author.Needs.{needs}
-use Rattle.merging.specs.Entries.{entryWith}
+use Rattle.open_sets.specs.Entries.{entryWith}
 use Rattle.spec.specs.Merge as definition
 use Rattle.merge.proofs.merge.name_in.Statement.{statement}
 use Rattle.merge.proofs.merge.name_in.Tie as tie

@@ -1,4 +1,4 @@
--- `merge::merge::name_key` meets its contract. Written by a script from tools/answers_merge.txt. Assumes nothing.
+-- `merge::merge::name_key` meets its contract. Written by a script from tools/answers/merge.txt. Assumes nothing.
 use borrow.Author.Needs.{needs}
 use Rattle.merge.proofs.KeySteps.{name-given}
 use Rattle.merge.proofs.merge.name_key.Statement.{statement}

@@ -1,4 +1,4 @@
--- `merge::merge::nest_in` meets its contract. Written by a script from tools/answers_merge.txt. Assumes nothing.
+-- `merge::merge::nest_in` meets its contract. Written by a script from tools/answers/merge.txt. Assumes nothing.
 use borrow.Author.Needs.{needs}
 use Rattle.merge.proofs.KeySteps.{nested-made}
 use Rattle.module.specs.Kinds.{kindOf}

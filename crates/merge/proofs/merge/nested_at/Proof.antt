@@ -1,8 +1,8 @@
--- `merge::merge::nested_at` meets its contract. Written by a script from tools/answers_merge.txt. Assumes nothing.
+-- `merge::merge::nested_at` meets its contract. Written by a script from tools/answers/merge.txt. Assumes nothing.
 use borrow.Author.Needs.{needs}
 use Rattle.merge.proofs.KeySteps.{nested-read, nested-found, nested-missed}
-use Rattle.merging.specs.Run.{maybeEntryOf}
-use Rattle.merging.specs.Entries.{maybeSetOf}
+use Rattle.open_sets.specs.Run.{maybeEntryOf}
+use Rattle.open_sets.specs.Entries.{maybeSetOf}
 use Rattle.merge.proofs.merge.nested_at.Statement.{statement}
 use Rattle.merge.proofs.merge.nested_at.Tie as tie
 

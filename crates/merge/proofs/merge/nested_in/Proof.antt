@@ -1,6 +1,6 @@
--- `merge::merge::nested_in` meets its contract. Written by a script from tools/answers_merge.txt. Assumes nothing.
+-- `merge::merge::nested_in` meets its contract. Written by a script from tools/answers/merge.txt. Assumes nothing.
 use borrow.Author.Needs.{needs}
-use Rattle.merging.specs.Entries.{entryWith, maybeSetOf}
+use Rattle.open_sets.specs.Entries.{entryWith, maybeSetOf}
 use Rattle.spec.specs.Merge as definition
 use Rattle.merge.proofs.merge.nested_in.Statement.{statement}
 use Rattle.merge.proofs.merge.nested_in.Tie as tie

@@ -1,7 +1,7 @@
--- `merge::merge::nested_or` meets its contract. Written by a script from tools/answers_merge.txt. Assumes nothing.
+-- `merge::merge::nested_or` meets its contract. Written by a script from tools/answers/merge.txt. Assumes nothing.
 use borrow.Author.Needs.{needs}
 use Rattle.merge.proofs.KeySteps.{nested-read, nested-there, nested-lacked}
-use Rattle.merging.specs.Entries.{maybeSetOf}
+use Rattle.open_sets.specs.Entries.{maybeSetOf}
 use Rattle.merge.proofs.merge.nested_or.Statement.{statement}
 use Rattle.merge.proofs.merge.nested_or.Tie as tie
 

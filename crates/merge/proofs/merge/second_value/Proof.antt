@@ -1,4 +1,4 @@
--- `merge::merge::second_value` meets its contract. Written by a script from tools/answers_merge.txt. Assumes nothing.
+-- `merge::merge::second_value` meets its contract. Written by a script from tools/answers/merge.txt. Assumes nothing.
 use borrow.Author.Needs.{needs}
 use Rattle.merge.proofs.KeySteps.{name-read, value-second}
 use Rattle.merge.proofs.merge.second_value.Statement.{statement}

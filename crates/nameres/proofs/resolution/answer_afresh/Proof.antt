@@ -1,4 +1,4 @@
--- `nameres::resolution::answer_afresh` meets its contract. Written by a script from tools/answers_nameres.txt. Assumes nothing.
+-- `nameres::resolution::answer_afresh` meets its contract. Written by a script from tools/answers/nameres.txt. Assumes nothing.
 use borrow.Author.Needs.{needs}
 use Rattle.nameres.proofs.StepLaws.{afresh-reference, afresh-other}
 use Rattle.nameres.proofs.resolution.answer_afresh.Statement.{statement}

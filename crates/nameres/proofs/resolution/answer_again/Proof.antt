@@ -1,4 +1,4 @@
--- `nameres::resolution::answer_again` meets its contract. Written by a script from tools/answers_nameres.txt. Assumes nothing.
+-- `nameres::resolution::answer_again` meets its contract. Written by a script from tools/answers/nameres.txt. Assumes nothing.
 use mathlib.Core.Path.{sym, _∙_}
 use borrow.Author.Needs.{needs}
 use Rattle.nameres.proofs.StepLaws.{again-borne, again-unborne}

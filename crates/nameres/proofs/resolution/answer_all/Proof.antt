@@ -1,4 +1,4 @@
--- `nameres::resolution::answer_all` meets its contract. Written by a script from tools/answers_nameres.txt. Assumes nothing.
+-- `nameres::resolution::answer_all` meets its contract. Written by a script from tools/answers/nameres.txt. Assumes nothing.
 use Prim.Native.Nat.{_-_, _≤_}
 use native.Mathlib.Omega.{arith}
 use Rattle.nameres.proofs.StepLaws.{afresh-none, afresh-more, afresh-done}

@@ -1,4 +1,4 @@
--- `nameres::resolution::bears_either` meets its contract. Written by a script from tools/answers_nameres.txt. Assumes nothing.
+-- `nameres::resolution::bears_either` meets its contract. Written by a script from tools/answers/nameres.txt. Assumes nothing.
 use borrow.Author.Needs.{needs}
 use Rattle.nameres.proofs.StepLaws.{bears-none, bears-old, bears-new}
 use Rattle.nameres.proofs.resolution.bears_either.Statement.{statement}

@@ -1,4 +1,4 @@
--- `nameres::resolution::resolve_again` meets its contract. Written by a script from tools/answers_nameres.txt. Assumes nothing.
+-- `nameres::resolution::resolve_again` meets its contract. Written by a script from tools/answers/nameres.txt. Assumes nothing.
 use native.Mathlib.Omega.{arith}
 use borrow.Author.Needs.{needs}
 use Rattle.nameres.proofs.ResolveLaws.{resolved-again}

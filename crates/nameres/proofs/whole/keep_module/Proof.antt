@@ -1,4 +1,4 @@
--- `nameres::whole::keep_module` meets its contract. Written by a script from tools/answers_nameres.txt. Assumes nothing.
+-- `nameres::whole::keep_module` meets its contract. Written by a script from tools/answers/nameres.txt. Assumes nothing.
 use native.Mathlib.Omega.{arith}
 use borrow.Author.Needs.{needs}
 use Rattle.nameres.proofs.LoadLaws.{keeps-all}

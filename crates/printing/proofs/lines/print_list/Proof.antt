@@ -1,4 +1,4 @@
--- `printing::lines::print_list` meets its contract. Written by a script from tools/answers_printing.txt. Assumes nothing.
+-- `printing::lines::print_list` meets its contract. Written by a script from tools/answers/printing.txt. Assumes nothing.
 use borrow.Author.Needs.{needs}
 use native.Mathlib.Omega.{arith}
 use Prim.Native.Nat.{_≤_, _-_}

@@ -1,4 +1,4 @@
--- `requests::ask::ask_reference` meets its contract. Written by a script from tools/answers_requests.txt. Assumes nothing.
+-- `requests::ask::ask_reference` meets its contract. Written by a script from tools/answers/requests.txt. Assumes nothing.
 use mathlib.Core.Path.{refl}
 use borrow.Author.Needs.{needs}
 use Rattle.requests.proofs.StateLaws.{short-asked, state-asked, state-fit}

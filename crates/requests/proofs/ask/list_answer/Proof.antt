@@ -1,8 +1,8 @@
--- `requests::ask::list_answer` meets its contract. Written by a script from tools/answers_requests.txt. Assumes nothing.
+-- `requests::ask::list_answer` meets its contract. Written by a script from tools/answers/requests.txt. Assumes nothing.
 use mathlib.Core.Path.{refl}
 use borrow.Author.Needs.{needs}
 use Rattle.requests.proofs.AskLaws.{no-list, withs-list}
-use Rattle.kept.specs.Answers.{answerWith}
+use Rattle.answer.specs.Answers.{answerWith}
 use Rattle.spec.specs.Calls.{withList}
 use Rattle.requests.proofs.ask.list_answer.Statement.{statement}
 use Rattle.requests.proofs.ask.list_answer.Tie as tie

@@ -1,7 +1,7 @@
--- `requests::ask::tell_name` meets its contract. Written by a script from tools/answers_requests.txt. Assumes nothing.
+-- `requests::ask::tell_name` meets its contract. Written by a script from tools/answers/requests.txt. Assumes nothing.
 use borrow.Author.Needs.{needs}
 use Rattle.requests.proofs.AskLaws.{no-name, list-long, list-told}
-use Rattle.nameres.proofs.ConditionLaws.{fit-long}
+use Rattle.requests.proofs.ConditionLaws.{fit-long}
 use Rattle.requests.proofs.ask.tell_name.Statement.{statement}
 use Rattle.requests.proofs.ask.tell_name.Tie as tie
 

@@ -1,7 +1,7 @@
--- `requests::ask::tell_reference` meets its contract. Written by a script from tools/answers_requests.txt. Assumes nothing.
+-- `requests::ask::tell_reference` meets its contract. Written by a script from tools/answers/requests.txt. Assumes nothing.
 use borrow.Author.Needs.{needs}
 use Rattle.requests.proofs.AskLaws.{no-expr, no-answer, answer-long, answer-told}
-use Rattle.nameres.proofs.ConditionLaws.{fit-long}
+use Rattle.requests.proofs.ConditionLaws.{fit-long}
 use Rattle.requests.proofs.ask.tell_reference.Statement.{statement}
 use Rattle.requests.proofs.ask.tell_reference.Tie as tie
 

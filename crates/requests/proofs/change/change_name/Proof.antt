@@ -1,4 +1,4 @@
--- `requests::change::change_name` meets its contract. Written by a script from tools/answers_requests.txt. Assumes nothing.
+-- `requests::change::change_name` meets its contract. Written by a script from tools/answers/requests.txt. Assumes nothing.
 use mathlib.Core.Path.{refl}
 use borrow.Author.Needs.{needs}
 use Rattle.requests.proofs.StateLaws.{short-changed, state-changed, state-fit}

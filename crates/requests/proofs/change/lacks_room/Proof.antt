@@ -1,4 +1,4 @@
--- `requests::change::lacks_room` meets its contract. Written by a script from tools/answers_requests.txt. Assumes nothing.
+-- `requests::change::lacks_room` meets its contract. Written by a script from tools/answers/requests.txt. Assumes nothing.
 use borrow.Author.Needs.{needs}
 use Rattle.requests.proofs.SetLaws.{room-left, room-gone}
 use Rattle.requests.proofs.change.lacks_room.Statement.{statement}

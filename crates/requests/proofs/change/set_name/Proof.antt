@@ -1,7 +1,7 @@
--- `requests::change::set_name` meets its contract. Written by a script from tools/answers_requests.txt. Assumes nothing.
+-- `requests::change::set_name` meets its contract. Written by a script from tools/answers/requests.txt. Assumes nothing.
 use borrow.Author.Needs.{needs}
 use Rattle.requests.proofs.SetLaws.{no-name, name-long, name-full, name-set}
-use Rattle.nameres.proofs.ConditionLaws.{fit-long}
+use Rattle.requests.proofs.ConditionLaws.{fit-long}
 use Rattle.requests.proofs.change.set_name.Statement.{statement}
 use Rattle.requests.proofs.change.set_name.Tie as tie
 
@@ -50,8 +50,8 @@ same-length-6 c = search needs
 returns-3 : tie.Need-returns-3
 returns-3 c = name-full _ _ _ _ (c .before .before .before .before .before .before .before .before .before .before .before .before .before .before .before .before .pre .0) (c .before .before .before .before .before .before .before .before .before .before .before .before .before .before .before .before .pre .1) _ (c .before .before .before .before .before .before .before .before .before .before .before .name-count .ensures .0) (c .before .before .before .before .before .before .before .before .before .before .if1 .left) (c .before .before .before .before .before .before .before .before .before .if2 .left) _ (c .before .before .before .before .before .before .before .name-text .ensures) _ (c .before .before .before .before .before .lacks-room .ensures) (c .before .before .before .before .if3 .taken) _ _ (c .before .before .refuse3 .ensures)
 
-change-name-requires : tie.Need-change-name-requires
-change-name-requires c κs = fit-long _ (c .before .before .before .before .before .before .before .before .before .before .before .before .before .pre .0)
+put-name-text-requires : tie.Need-put-name-text-requires
+put-name-text-requires c κs = fit-long _ (c .before .before .before .before .before .before .before .before .before .before .before .before .before .pre .0)
 
 accept-requires : tie.Need-accept-requires
 accept-requires c κs = search needs
@@ -63,7 +63,7 @@ same-length-8 : tie.Need-same-length-8
 same-length-8 c = search needs
 
 returns-4 : tie.Need-returns-4
-returns-4 c = name-set _ _ _ _ (c .before .before .before .before .before .before .before .before .before .before .before .before .before .before .before .before .before .before .before .before .pre .0) (c .before .before .before .before .before .before .before .before .before .before .before .before .before .before .before .before .before .before .before .before .pre .1) _ (c .before .before .before .before .before .before .before .before .before .before .before .before .before .before .before .name-count .ensures .0) (c .before .before .before .before .before .before .before .before .before .before .before .before .before .before .if1 .left) (c .before .before .before .before .before .before .before .before .before .before .before .before .before .if2 .left) _ (c .before .before .before .before .before .before .before .before .before .before .before .name-text .ensures) _ (c .before .before .before .before .before .before .before .before .before .lacks-room .ensures) (c .before .before .before .before .before .before .before .before .if3 .left) _ (c .before .before .before .before .before .before .change-name .ensures) _ _ (c .before .before .accept .ensures)
+returns-4 c = name-set _ _ _ _ (c .before .before .before .before .before .before .before .before .before .before .before .before .before .before .before .before .before .before .before .before .pre .0) (c .before .before .before .before .before .before .before .before .before .before .before .before .before .before .before .before .before .before .before .before .pre .1) _ (c .before .before .before .before .before .before .before .before .before .before .before .before .before .before .before .name-count .ensures .0) (c .before .before .before .before .before .before .before .before .before .before .before .before .before .before .if1 .left) (c .before .before .before .before .before .before .before .before .before .before .before .before .before .if2 .left) _ (c .before .before .before .before .before .before .before .before .before .before .before .name-text .ensures) _ (c .before .before .before .before .before .before .before .before .before .lacks-room .ensures) (c .before .before .before .before .before .before .before .before .if3 .left) _ (c .before .before .before .before .before .before .put-name-text .ensures) _ _ (c .before .before .accept .ensures)
 
 pub set-name-spec : {M : Type 1} → statement M
 set-name-spec =
@@ -84,7 +84,7 @@ set-name-spec =
     same-length-5
     same-length-6
     returns-3
-    change-name-requires
+    put-name-text-requires
     accept-requires
     same-length-7
     same-length-8

@@ -1,7 +1,7 @@
--- `requests::change::set_reference` meets its contract. Written by a script from tools/answers_requests.txt. Assumes nothing.
+-- `requests::change::set_reference` meets its contract. Written by a script from tools/answers/requests.txt. Assumes nothing.
 use borrow.Author.Needs.{needs}
 use Rattle.requests.proofs.SetLaws.{no-expr, no-reference, reference-long, reference-full, reference-set}
-use Rattle.nameres.proofs.ConditionLaws.{fit-long}
+use Rattle.requests.proofs.ConditionLaws.{fit-long}
 use Rattle.requests.proofs.change.set_reference.Statement.{statement}
 use Rattle.requests.proofs.change.set_reference.Tie as tie
 
@@ -68,8 +68,8 @@ same-length-8 c = search needs
 returns-4 : tie.Need-returns-4
 returns-4 c = reference-full _ _ _ _ (c .before .before .before .before .before .before .before .before .before .before .before .before .before .before .before .before .before .before .before .pre .0) (c .before .before .before .before .before .before .before .before .before .before .before .before .before .before .before .before .before .before .before .pre .1) _ (c .before .before .before .before .before .before .before .before .before .before .before .before .before .before .expr-count .ensures .0) (c .before .before .before .before .before .before .before .before .before .before .before .before .before .if1 .left) _ (c .before .before .before .before .before .before .before .before .before .before .before .reference-text .ensures) _ (c .before .before .before .before .before .before .before .before .before .held .given .1) (c .before .before .before .before .before .before .before .if2 .left) _ (c .before .before .before .before .before .lacks-room .ensures) (c .before .before .before .before .if3 .taken) _ _ (c .before .before .refuse4 .ensures)
 
-change-reference-requires : tie.Need-change-reference-requires
-change-reference-requires c κs = fit-long _ (c .before .before .before .before .before .before .before .before .before .before .before .before .before .before .before .before .pre .0)
+put-reference-text-requires : tie.Need-put-reference-text-requires
+put-reference-text-requires c κs = fit-long _ (c .before .before .before .before .before .before .before .before .before .before .before .before .before .before .before .before .pre .0)
 
 accept-requires : tie.Need-accept-requires
 accept-requires c κs = search needs
@@ -81,7 +81,7 @@ same-length-10 : tie.Need-same-length-10
 same-length-10 c = search needs
 
 returns-5 : tie.Need-returns-5
-returns-5 c = reference-set _ _ _ _ (c .before .before .before .before .before .before .before .before .before .before .before .before .before .before .before .before .before .before .before .before .before .before .before .pre .0) (c .before .before .before .before .before .before .before .before .before .before .before .before .before .before .before .before .before .before .before .before .before .before .before .pre .1) _ (c .before .before .before .before .before .before .before .before .before .before .before .before .before .before .before .before .before .before .expr-count .ensures .0) (c .before .before .before .before .before .before .before .before .before .before .before .before .before .before .before .before .before .if1 .left) _ (c .before .before .before .before .before .before .before .before .before .before .before .before .before .before .before .reference-text .ensures) _ (c .before .before .before .before .before .before .before .before .before .before .before .before .before .held .given .1) (c .before .before .before .before .before .before .before .before .before .before .before .if2 .left) _ (c .before .before .before .before .before .before .before .before .before .lacks-room .ensures) (c .before .before .before .before .before .before .before .before .if3 .left) _ (c .before .before .before .before .before .before .change-reference .ensures) _ _ (c .before .before .accept .ensures)
+returns-5 c = reference-set _ _ _ _ (c .before .before .before .before .before .before .before .before .before .before .before .before .before .before .before .before .before .before .before .before .before .before .before .pre .0) (c .before .before .before .before .before .before .before .before .before .before .before .before .before .before .before .before .before .before .before .before .before .before .before .pre .1) _ (c .before .before .before .before .before .before .before .before .before .before .before .before .before .before .before .before .before .before .expr-count .ensures .0) (c .before .before .before .before .before .before .before .before .before .before .before .before .before .before .before .before .before .if1 .left) _ (c .before .before .before .before .before .before .before .before .before .before .before .before .before .before .before .reference-text .ensures) _ (c .before .before .before .before .before .before .before .before .before .before .before .before .before .held .given .1) (c .before .before .before .before .before .before .before .before .before .before .before .if2 .left) _ (c .before .before .before .before .before .before .before .before .before .lacks-room .ensures) (c .before .before .before .before .before .before .before .before .if3 .left) _ (c .before .before .before .before .before .before .put-reference-text .ensures) _ _ (c .before .before .accept .ensures)
 
 pub set-reference-spec : {M : Type 1} → statement M
 set-reference-spec =
@@ -108,7 +108,7 @@ set-reference-spec =
     same-length-7
     same-length-8
     returns-4
-    change-reference-requires
+    put-reference-text-requires
     accept-requires
     same-length-9
     same-length-10

@@ -1,4 +1,4 @@
--- `requests::state::state_refusal` meets its contract. Written by a script from tools/answers_requests.txt. Assumes nothing.
+-- `requests::state::state_refusal` meets its contract. Written by a script from tools/answers/requests.txt. Assumes nothing.
 use mathlib.Core.Path.{sym, ap, _∙_}
 use borrow.Author.Needs.{needs}
 use Rattle.soundness.specs.Verdict.{numberOf}

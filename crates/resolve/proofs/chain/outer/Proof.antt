@@ -1,4 +1,4 @@
--- `resolve::chain::outer` meets its contract. Written by a script from tools/answers_resolve.txt. Assumes nothing.
+-- `resolve::chain::outer` meets its contract. Written by a script from tools/answers/resolve.txt. Assumes nothing.
 use borrow.Author.Needs.{needs}
 use Rattle.resolve.proofs.ChainLaws.{bound-met, parent-followed}
 use Rattle.resolve.proofs.chain.outer.Statement.{statement}

@@ -1,4 +1,4 @@
--- `resolve::definitions::defined_in` meets its contract. Written by a script from tools/answers_resolve.txt. Assumes nothing.
+-- `resolve::definitions::defined_in` meets its contract. Written by a script from tools/answers/resolve.txt. Assumes nothing.
 use native.Mathlib.Omega.{arith}
 use Prim.Native.Nat.{_-_}
 use mathlib.Core.Path.{ap}

@@ -1,4 +1,4 @@
--- `resolve::definitions::entered_as` meets its contract. Written by a script from tools/answers_resolve.txt. Assumes nothing.
+-- `resolve::definitions::entered_as` meets its contract. Written by a script from tools/answers/resolve.txt. Assumes nothing.
 use borrow.Author.Needs.{needs}
 use Rattle.resolve.proofs.DefinitionLaws.{has-text, other-text, none-there}
 use Rattle.resolve.proofs.IdLaws.{a-name, no-name}

@@ -1,4 +1,4 @@
--- `resolve::names::bound_or_withs` meets its contract. Written by a script from tools/answers_resolve.txt. Assumes nothing.
+-- `resolve::names::bound_or_withs` meets its contract. Written by a script from tools/answers/resolve.txt. Assumes nothing.
 use borrow.Author.Needs.{needs}
 use Rattle.resolve.proofs.NameLaws.{bound, withs-there, withs-lacking}
 use Rattle.resolve.proofs.names.bound_or_withs.Statement.{statement}

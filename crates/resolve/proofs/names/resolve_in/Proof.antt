@@ -1,4 +1,4 @@
--- `resolve::names::resolve_in` meets its contract. Written by a script from tools/answers_resolve.txt. Assumes nothing.
+-- `resolve::names::resolve_in` meets its contract. Written by a script from tools/answers/resolve.txt. Assumes nothing.
 use borrow.Author.Needs.{needs}
 use Rattle.resolve.proofs.NameLaws.{builtin-is, bound-is}
 use Rattle.resolve.proofs.names.resolve_in.Statement.{statement}

@@ -1,4 +1,4 @@
--- `resolve::names::resolve_name` meets its contract. Written by a script from tools/answers_resolve.txt. Assumes nothing.
+-- `resolve::names::resolve_name` meets its contract. Written by a script from tools/answers/resolve.txt. Assumes nothing.
 use borrow.Author.Needs.{needs}
 use Rattle.resolve.proofs.NameLaws.{in-scope, in-none}
 use Rattle.resolve.proofs.IdLaws.{a-scope, no-scope}

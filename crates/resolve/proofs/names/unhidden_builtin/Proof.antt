@@ -1,4 +1,4 @@
--- `resolve::names::unhidden_builtin` meets its contract. Written by a script from tools/answers_resolve.txt. Assumes nothing.
+-- `resolve::names::unhidden_builtin` meets its contract. Written by a script from tools/answers/resolve.txt. Assumes nothing.
 use borrow.Author.Needs.{needs}
 use Rattle.resolve.proofs.NameLaws.{hidden, not-hidden}
 use Rattle.builtins.specs.Lookup.{builtinOf}

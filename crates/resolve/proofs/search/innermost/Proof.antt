@@ -1,4 +1,4 @@
--- `resolve::search::innermost` meets its contract. Written by a script from tools/answers_resolve.txt. Assumes nothing.
+-- `resolve::search::innermost` meets its contract. Written by a script from tools/answers/resolve.txt. Assumes nothing.
 use native.Mathlib.Omega.{arith}
 use mathlib.Core.Path.{refl}
 use Rattle.resolve.proofs.SearchLaws.{Searching, search-here, search-end, search-low, search-on}

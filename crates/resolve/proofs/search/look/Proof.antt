@@ -1,4 +1,4 @@
--- `resolve::search::look` meets its contract. Written by a script from tools/answers_resolve.txt. Assumes nothing.
+-- `resolve::search::look` meets its contract. Written by a script from tools/answers/resolve.txt. Assumes nothing.
 use borrow.Author.Needs.{needs}
 use Rattle.resolve.proofs.SearchLaws.{looks-here, looks-on, looks-through}
 use Rattle.resolve.proofs.IdLaws.{a-name, no-name, an-expr}

@@ -1,4 +1,4 @@
--- `resolve::withs::count_withs` meets its contract. Written by a script from tools/answers_resolve.txt. Assumes nothing.
+-- `resolve::withs::count_withs` meets its contract. Written by a script from tools/answers/resolve.txt. Assumes nothing.
 use native.Mathlib.Omega.{arith}
 use Rattle.resolve.proofs.CountLaws.{none-past, scope-low, Counting, counting-none, count-fits, counting-done, counting-on}
 use Rattle.resolve.proofs.WithLaws.{outer-low}

@@ -1,4 +1,4 @@
--- `resolve::withs::has_with` meets its contract. Written by a script from tools/answers_resolve.txt. Assumes nothing.
+-- `resolve::withs::has_with` meets its contract. Written by a script from tools/answers/resolve.txt. Assumes nothing.
 use native.Mathlib.Omega.{arith}
 use mathlib.Core.Path.{_≡_, refl}
 use Rattle.resolve.proofs.WithLaws.{Around, outer-low, with-seen, none-seen, none-yet}

@@ -1,4 +1,4 @@
--- `resolve::withs::own_withs` meets its contract. Written by a script from tools/answers_resolve.txt. Assumes nothing.
+-- `resolve::withs::own_withs` meets its contract. Written by a script from tools/answers/resolve.txt. Assumes nothing.
 use borrow.Author.Needs.{needs}
 use Rattle.resolve.proofs.CountLaws.{one-own, none-own}
 use Rattle.resolve.proofs.IdLaws.{an-expr, no-expr}

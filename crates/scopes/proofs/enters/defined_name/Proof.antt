@@ -1,4 +1,4 @@
--- `scopes::enters::defined_name` meets its contract. Written by a script from tools/answers_scopes.txt. Assumes nothing.
+-- `scopes::enters::defined_name` meets its contract. Written by a script from tools/answers/scopes.txt. Assumes nothing.
 use borrow.Author.Needs.{needs}
 use Rattle.scopes.specs.Entering.{entered}
 use Rattle.store.specs.Codes.{itemWith}

@@ -1,4 +1,4 @@
--- `scopes::enters::enter_fields` meets its contract. Written by a script from tools/answers_scopes.txt. Assumes nothing.
+-- `scopes::enters::enter_fields` meets its contract. Written by a script from tools/answers/scopes.txt. Assumes nothing.
 use borrow.Author.Needs.{needs}
 use Rattle.scopes.proofs.EnterLaws.{enters-none}
 use Rattle.scopes.specs.Entering.{entered}

@@ -1,4 +1,4 @@
--- `scopes::enters::enter_items` meets its contract. Written by a script from tools/answers_scopes.txt. Assumes nothing.
+-- `scopes::enters::enter_items` meets its contract. Written by a script from tools/answers/scopes.txt. Assumes nothing.
 use lib.ListN.{take}
 use Prim.Native.Nat.{_-_}
 use native.Mathlib.Omega.{arith}

@@ -1,4 +1,4 @@
--- `scopes::enters::field_name` meets its contract. Written by a script from tools/answers_scopes.txt. Assumes nothing.
+-- `scopes::enters::field_name` meets its contract. Written by a script from tools/answers/scopes.txt. Assumes nothing.
 use mathlib.Core.List.{append-nil}
 use mathlib.Core.Path.{sym}
 use borrow.Author.Needs.{needs}

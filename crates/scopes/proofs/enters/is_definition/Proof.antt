@@ -1,4 +1,4 @@
--- `scopes::enters::is_definition` meets its contract. Written by a script from tools/answers_scopes.txt. Assumes nothing.
+-- `scopes::enters::is_definition` meets its contract. Written by a script from tools/answers/scopes.txt. Assumes nothing.
 use borrow.Author.Needs.{needs}
 use Rattle.module.specs.Kinds.{kindOf}
 use Rattle.spec.specs.Scopes.{isDefinition}

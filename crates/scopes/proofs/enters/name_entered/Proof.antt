@@ -1,4 +1,4 @@
--- `scopes::enters::name_entered` meets its contract. Written by a script from tools/answers_scopes.txt. Assumes nothing.
+-- `scopes::enters::name_entered` meets its contract. Written by a script from tools/answers/scopes.txt. Assumes nothing.
 use borrow.Author.Needs.{needs}
 use Rattle.scopes.proofs.enters.name_entered.Statement.{statement}
 use Rattle.scopes.proofs.enters.name_entered.Tie as tie

@@ -1,4 +1,4 @@
--- `scopes::enters::open_for` meets its contract. Written by a script from tools/answers_scopes.txt. Assumes nothing.
+-- `scopes::enters::open_for` meets its contract. Written by a script from tools/answers/scopes.txt. Assumes nothing.
 use borrow.Author.Needs.{needs}
 use Rattle.scopes.proofs.OpenLaws.{for-none, for-opened}
 use Rattle.scopes.proofs.enters.open_for.Statement.{statement}

@@ -1,4 +1,4 @@
--- `scopes::enters::open_for_bindings` meets its contract. Written by a script from tools/answers_scopes.txt. Assumes nothing.
+-- `scopes::enters::open_for_bindings` meets its contract. Written by a script from tools/answers/scopes.txt. Assumes nothing.
 use mathlib.Core.Path.{refl}
 use borrow.Author.Needs.{needs}
 use Rattle.scopes.proofs.OpenLaws.{opened-for}

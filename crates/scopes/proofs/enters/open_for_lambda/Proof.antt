@@ -1,4 +1,4 @@
--- `scopes::enters::open_for_lambda` meets its contract. Written by a script from tools/answers_scopes.txt. Assumes nothing.
+-- `scopes::enters::open_for_lambda` meets its contract. Written by a script from tools/answers/scopes.txt. Assumes nothing.
 use native.Mathlib.Omega.{arith}
 use mathlib.Core.Path.{refl}
 use borrow.Author.Needs.{needs}

@@ -1,4 +1,4 @@
--- `scopes::picks::default_of` meets its contract. Written by a script from tools/answers_scopes.txt. Assumes nothing.
+-- `scopes::picks::default_of` meets its contract. Written by a script from tools/answers/scopes.txt. Assumes nothing.
 use mathlib.Core.List.{append-nil}
 use mathlib.Core.Path.{_∙_, sym}
 use borrow.Author.Needs.{needs}

@@ -1,4 +1,4 @@
--- `scopes::picks::dynamic_of` meets its contract. Written by a script from tools/answers_scopes.txt. Assumes nothing.
+-- `scopes::picks::dynamic_of` meets its contract. Written by a script from tools/answers/scopes.txt. Assumes nothing.
 use borrow.Author.Needs.{needs}
 use Rattle.scopes.specs.Picking.{picksOf, picked}
 use Rattle.store.specs.Codes.{itemWith}

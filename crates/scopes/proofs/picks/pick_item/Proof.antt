@@ -1,4 +1,4 @@
--- `scopes::picks::pick_item` meets its contract. Written by a script from tools/answers_scopes.txt. Assumes nothing.
+-- `scopes::picks::pick_item` meets its contract. Written by a script from tools/answers/scopes.txt. Assumes nothing.
 use borrow.Author.Needs.{needs}
 use Rattle.scopes.proofs.picks.pick_item.Statement.{statement}
 use Rattle.scopes.proofs.picks.pick_item.Tie as tie

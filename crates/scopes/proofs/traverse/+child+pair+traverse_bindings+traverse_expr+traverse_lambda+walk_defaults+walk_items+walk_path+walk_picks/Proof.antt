@@ -1,4 +1,4 @@
--- The proof of the cycle of calls, put together from the members' files. Written by a script from tools/answers_scopes_cycle.txt. Assumes nothing.
+-- The proof of the cycle of calls, put together from the members' files. Written by a script from tools/answers/scopes.cycle.txt. Assumes nothing.
 mod Common
 mod Child
 mod Pair

@@ -1,4 +1,4 @@
--- `scopes::whole::compute_scopes` meets its contract. Written by a script from tools/answers_scopes.txt. Assumes nothing.
+-- `scopes::whole::compute_scopes` meets its contract. Written by a script from tools/answers/scopes.txt. Assumes nothing.
 use borrow.Author.Needs.{needs}
 use Rattle.scopes.proofs.WholeLaws.{scopes-computed}
 use Rattle.scopes.proofs.whole.compute_scopes.Statement.{statement}

@@ -1,4 +1,4 @@
--- `sheet::decimals::decimal` meets its contract. Written by a script from tools/answers_sheet.txt. Assumes nothing.
+-- `sheet::decimals::decimal` meets its contract. Written by a script from tools/answers/sheet.txt. Assumes nothing.
 use borrow.Author.Needs.{needs}
 use Rattle.sheet.proofs.DecimalLaws.{decimal-none, decimal-zero, decimal-zeros, decimal-more}
 use Rattle.sheet.proofs.decimals.decimal.Statement.{statement}

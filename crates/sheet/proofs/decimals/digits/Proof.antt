@@ -1,4 +1,4 @@
--- `sheet::decimals::digits` meets its contract. Written by a script from tools/answers_sheet.txt. Assumes nothing.
+-- `sheet::decimals::digits` meets its contract. Written by a script from tools/answers/sheet.txt. Assumes nothing.
 use Prim.Native.Nat.{_-_}
 use native.Mathlib.Omega.{arith}
 use Rattle.sheet.proofs.DecimalLaws.{Digits, digits-start, digits-other, digits-more, digits-end, digit-low, digit-high}

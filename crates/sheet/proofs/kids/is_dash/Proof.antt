@@ -1,4 +1,4 @@
--- `sheet::kids::is_dash` meets its contract. Written by a script from tools/answers_sheet.txt. Assumes nothing.
+-- `sheet::kids::is_dash` meets its contract. Written by a script from tools/answers/sheet.txt. Assumes nothing.
 use borrow.Author.Needs.{needs}
 use Rattle.sheet.proofs.KidLaws.{not-dash, dash-is}
 use Rattle.sheet.proofs.kids.is_dash.Statement.{statement}

@@ -1,11 +1,9 @@
--- `sheet::kids::judge_kid` meets its contract. Written by a script from tools/answers_sheet.txt. Assumes nothing.
+-- `sheet::kids::judge_kid` meets its contract. Written by a script from tools/answers/sheet.txt. Assumes nothing.
 use mathlib.Core.Option.{some}
-use mathlib.Core.Path.{sym, ap, _∙_}
 use mathlib.Core.Path.{sym, ap, _∙_}
 use native.Mathlib.Omega.{arith}
 use borrow.Author.Needs.{needs}
 use Rattle.sheet.proofs.KidLaws.{left-malformed, left-end, left-absent, left-number, still-low, still-not}
-use Rattle.sheet.proofs.KidLaws.{left-malformed, left-end, left-absent, left-number}
 use Rattle.sheet.proofs.kids.judge_kid.Statement.{statement}
 use Rattle.sheet.proofs.kids.judge_kid.Tie as tie
 

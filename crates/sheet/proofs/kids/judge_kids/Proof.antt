@@ -1,4 +1,4 @@
--- `sheet::kids::judge_kids` meets its contract. Written by a script from tools/answers_sheet.txt. Assumes nothing.
+-- `sheet::kids::judge_kids` meets its contract. Written by a script from tools/answers/sheet.txt. Assumes nothing.
 use borrow.Author.Needs.{needs}
 use Prim.Native.Nat.{_-_}
 use native.Mathlib.Omega.{arith}

@@ -1,4 +1,4 @@
--- `sheet::kids::kid_in` meets its contract. Written by a script from tools/answers_sheet.txt. Assumes nothing.
+-- `sheet::kids::kid_in` meets its contract. Written by a script from tools/answers/sheet.txt. Assumes nothing.
 use borrow.Author.Needs.{needs}
 use Rattle.sheet.proofs.KidLaws.{kid-absent, kid-malformed, kid-number}
 use Rattle.sheet.proofs.kids.kid_in.Statement.{statement}

@@ -1,4 +1,4 @@
--- `sheet::kids::next_kid` meets its contract. Written by a script from tools/answers_sheet.txt. Assumes nothing.
+-- `sheet::kids::next_kid` meets its contract. Written by a script from tools/answers/sheet.txt. Assumes nothing.
 use native.Mathlib.Omega.{arith}
 use borrow.Author.Needs.{needs}
 use Rattle.sheet.proofs.KidLaws.{step-none, step-comma, step-malformed, step-absent, step-number}

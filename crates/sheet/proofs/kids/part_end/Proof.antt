@@ -1,4 +1,4 @@
--- `sheet::kids::part_end` meets its contract. Written by a script from tools/answers_sheet.txt. Assumes nothing.
+-- `sheet::kids::part_end` meets its contract. Written by a script from tools/answers/sheet.txt. Assumes nothing.
 use Prim.Native.Nat.{_-_}
 use native.Mathlib.Omega.{arith}
 use Rattle.sheet.proofs.KidLaws.{Cut, cut-start, cut-comma, cut-more, cut-end}

@@ -1,4 +1,4 @@
--- `sheet::kinds::flags` meets its contract. Written by a script from tools/answers_sheet.txt. Assumes nothing.
+-- `sheet::kinds::flags` meets its contract. Written by a script from tools/answers/sheet.txt. Assumes nothing.
 use mathlib.Core.Logic.{inl, inr}
 use Rattle.sheet.proofs.KindLaws.{flags-one, flags-fifteen, flags-two, flags-other}
 use Rattle.sheet.proofs.kinds.flags.Statement.{statement}

@@ -1,4 +1,4 @@
--- `sheet::kinds::text_rule` meets its contract. Written by a script from tools/answers_sheet.txt. Assumes nothing.
+-- `sheet::kinds::text_rule` meets its contract. Written by a script from tools/answers/sheet.txt. Assumes nothing.
 use mathlib.Core.Logic.{inl, inr}
 use Rattle.sheet.proofs.KindLaws.{text-any, text-float, text-digits, text-named, text-other}
 use Rattle.sheet.proofs.kinds.text_rule.Statement.{statement}

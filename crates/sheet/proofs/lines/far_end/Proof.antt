@@ -1,4 +1,4 @@
--- `sheet::lines::far_end` meets its contract. Written by a script from tools/answers_sheet.txt. Assumes nothing.
+-- `sheet::lines::far_end` meets its contract. Written by a script from tools/answers/sheet.txt. Assumes nothing.
 use lib.ListN.{length}
 use Prim.Native.Nat.{_-_}
 use native.Mathlib.Omega.{arith}

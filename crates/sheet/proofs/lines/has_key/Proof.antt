@@ -1,4 +1,4 @@
--- `sheet::lines::has_key` meets its contract. Written by a script from tools/answers_sheet.txt. Assumes nothing.
+-- `sheet::lines::has_key` meets its contract. Written by a script from tools/answers/sheet.txt. Assumes nothing.
 use borrow.Author.Needs.{needs}
 use Rattle.sheet.proofs.LineLaws.{key-short, key-compared}
 use Rattle.sheet.proofs.lines.has_key.Statement.{statement}

@@ -1,4 +1,4 @@
--- `sheet::sheets::read_sheet` meets its contract. Written by a script from tools/answers_sheet.txt. Assumes nothing.
+-- `sheet::sheets::read_sheet` meets its contract. Written by a script from tools/answers/sheet.txt. Assumes nothing.
 use native.Mathlib.Omega.{arith}
 use borrow.Author.Needs.{needs}
 use Rattle.sheet.proofs.SheetLaws.{sheet-long, sheet-count, sheet-node, sheet-more, sheet-whole}

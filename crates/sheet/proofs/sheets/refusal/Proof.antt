@@ -1,4 +1,4 @@
--- `sheet::sheets::refusal` meets its contract. Written by a script from tools/answers_sheet.txt. Assumes nothing.
+-- `sheet::sheets::refusal` meets its contract. Written by a script from tools/answers/sheet.txt. Assumes nothing.
 use borrow.Author.Needs.{needs}
 use Rattle.sheet.proofs.SheetLaws.{refusal-is}
 use Rattle.spec.specs.Sheet.{faultNumber}

@@ -1,4 +1,4 @@
--- `sheet::texts::decode_text` meets its contract. Written by a script from tools/answers_sheet.txt. Assumes nothing.
+-- `sheet::texts::decode_text` meets its contract. Written by a script from tools/answers/sheet.txt. Assumes nothing.
 use Prim.Native.Nat.{_-_}
 use native.Mathlib.Omega.{arith}
 use Rattle.sheet.proofs.TextLaws.{Written, written-none, written-more, written-all}

@@ -1,4 +1,4 @@
--- `sheet::texts::fits` meets its contract. Written by a script from tools/answers_sheet.txt. Assumes nothing.
+-- `sheet::texts::fits` meets its contract. Written by a script from tools/answers/sheet.txt. Assumes nothing.
 use mathlib.Core.Path.{ap}
 use borrow.Author.Needs.{needs}
 use Rattle.sheet.proofs.TextLaws.{fits-none, fits-any, fits-digits, fits-float, fits-no-float, fits-named, fits-no-name}

@@ -1,4 +1,4 @@
--- `sheet::texts::four_more` meets its contract. Written by a script from tools/answers_sheet.txt. Assumes nothing.
+-- `sheet::texts::four_more` meets its contract. Written by a script from tools/answers/sheet.txt. Assumes nothing.
 use native.Mathlib.Omega.{arith}
 use mathlib.Core.Path.{_∙_}
 use borrow.Author.Needs.{needs}

@@ -1,4 +1,4 @@
--- `sheet::texts::hex_byte` meets its contract. Written by a script from tools/answers_sheet.txt. Assumes nothing.
+-- `sheet::texts::hex_byte` meets its contract. Written by a script from tools/answers/sheet.txt. Assumes nothing.
 use borrow.Author.Needs.{needs}
 use Rattle.sheet.proofs.TextLaws.{byte-of}
 use Rattle.sheet.proofs.texts.hex_byte.Statement.{statement}

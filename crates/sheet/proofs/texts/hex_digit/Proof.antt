@@ -1,4 +1,4 @@
--- `sheet::texts::hex_digit` meets its contract. Written by a script from tools/answers_sheet.txt. Assumes nothing.
+-- `sheet::texts::hex_digit` meets its contract. Written by a script from tools/answers/sheet.txt. Assumes nothing.
 use borrow.Author.Needs.{needs}
 use Rattle.sheet.proofs.TextLaws.{of-low, of-number, of-between, of-letter, of-high}
 use Rattle.sheet.proofs.texts.hex_digit.Statement.{statement}

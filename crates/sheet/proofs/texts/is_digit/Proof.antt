@@ -1,4 +1,4 @@
--- `sheet::texts::is_digit` meets its contract. Written by a script from tools/answers_sheet.txt. Assumes nothing.
+-- `sheet::texts::is_digit` meets its contract. Written by a script from tools/answers/sheet.txt. Assumes nothing.
 use mathlib.Core.Path.{sym}
 use Rattle.sheet.proofs.DecimalLaws.{digit-low}
 use Rattle.sheet.proofs.TextLaws.{digit-test}

@@ -1,4 +1,4 @@
--- `sheet::texts::is_float` meets its contract. Written by a script from tools/answers_sheet.txt. Assumes nothing.
+-- `sheet::texts::is_float` meets its contract. Written by a script from tools/answers/sheet.txt. Assumes nothing.
 use borrow.Author.Needs.{needs}
 use Rattle.sheet.proofs.TextLaws.{float-long, float-bits}
 use Rattle.sheet.proofs.texts.is_float.Statement.{statement}

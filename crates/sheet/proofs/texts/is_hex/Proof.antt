@@ -1,4 +1,4 @@
--- `sheet::texts::is_hex` meets its contract. Written by a script from tools/answers_sheet.txt. Assumes nothing.
+-- `sheet::texts::is_hex` meets its contract. Written by a script from tools/answers/sheet.txt. Assumes nothing.
 use Rattle.sheet.proofs.TextLaws.{is-low, is-number, is-between, is-last}
 use Rattle.sheet.proofs.texts.is_hex.Statement.{statement}
 use Rattle.sheet.proofs.texts.is_hex.Tie as tie

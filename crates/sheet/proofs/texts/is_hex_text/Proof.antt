@@ -1,4 +1,4 @@
--- `sheet::texts::is_hex_text` meets its contract. Written by a script from tools/answers_sheet.txt. Assumes nothing.
+-- `sheet::texts::is_hex_text` meets its contract. Written by a script from tools/answers/sheet.txt. Assumes nothing.
 use borrow.Author.Tests.{not-true, not-false}
 use Prim.Native.Nat.{_-_}
 use native.Mathlib.Omega.{arith}

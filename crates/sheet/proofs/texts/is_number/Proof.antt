@@ -1,4 +1,4 @@
--- `sheet::texts::is_number` meets its contract. Written by a script from tools/answers_sheet.txt. Assumes nothing.
+-- `sheet::texts::is_number` meets its contract. Written by a script from tools/answers/sheet.txt. Assumes nothing.
 use mathlib.Core.Path.{sym, _∙_}
 use borrow.Author.Needs.{needs}
 use Rattle.sheet.proofs.TextLaws.{number-none, number-some}

@@ -1,4 +1,4 @@
--- `sheet::verdicts::told` meets its contract. Written by a script from tools/answers_sheet.txt. Assumes nothing.
+-- `sheet::verdicts::told` meets its contract. Written by a script from tools/answers/sheet.txt. Assumes nothing.
 use mathlib.Core.Path.{sym, ap}
 use borrow.Author.Needs.{needs}
 use Rattle.sheet.specs.Verdicts.{spanTold}

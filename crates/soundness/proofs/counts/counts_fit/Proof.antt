@@ -1,4 +1,4 @@
--- `soundness::counts::counts_fit` meets its contract. Written by a script from tools/answers_soundness.txt. Assumes nothing.
+-- `soundness::counts::counts_fit` meets its contract. Written by a script from tools/answers/soundness.txt. Assumes nothing.
 use borrow.Author.Needs.{needs}
 use Rattle.soundness.proofs.SoundCountLaws.{counts-are}
 use Rattle.soundness.proofs.counts.counts_fit.Statement.{statement}

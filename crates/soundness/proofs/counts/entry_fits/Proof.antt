@@ -1,4 +1,4 @@
--- `soundness::counts::entry_fits` meets its contract. Written by a script from tools/answers_soundness.txt. Assumes nothing.
+-- `soundness::counts::entry_fits` meets its contract. Written by a script from tools/answers/soundness.txt. Assumes nothing.
 use borrow.Author.Needs.{needs}
 use Rattle.soundness.proofs.SoundCountLaws.{entry-is}
 use Rattle.soundness.proofs.counts.entry_fits.Statement.{statement}

@@ -1,4 +1,4 @@
--- `soundness::exprs::exprs_fit` meets its contract. Written by a script from tools/answers_soundness.txt. Assumes nothing.
+-- `soundness::exprs::exprs_fit` meets its contract. Written by a script from tools/answers/soundness.txt. Assumes nothing.
 use mathlib.Core.Path.{_∙_}
 use borrow.Author.Needs.{needs}
 use Rattle.soundness.proofs.SoundTableLaws.{items-fall, items-ascend, rows-decide}

@@ -1,4 +1,4 @@
--- `soundness::exprs::row_fits` meets its contract. Written by a script from tools/answers_soundness.txt. Assumes nothing.
+-- `soundness::exprs::row_fits` meets its contract. Written by a script from tools/answers/soundness.txt. Assumes nothing.
 use borrow.Author.Tests.{not-true, not-false}
 use borrow.Author.Needs.{needs}
 use Rattle.soundness.proofs.SoundTableLaws.{items-within}

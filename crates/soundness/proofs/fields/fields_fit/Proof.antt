@@ -1,4 +1,4 @@
--- `soundness::fields::fields_fit` meets its contract. Written by a script from tools/answers_soundness.txt. Assumes nothing.
+-- `soundness::fields::fields_fit` meets its contract. Written by a script from tools/answers/soundness.txt. Assumes nothing.
 use mathlib.Core.Path.{_∙_}
 use borrow.Author.Needs.{needs}
 use Rattle.soundness.proofs.SoundRowLaws.{no-fields, no-fields-2, two-children, two-children-2, three-children, float-bits, whole-number, one-text, one-text-2, one-child, child-and-name, binary, unary, other-sorts}

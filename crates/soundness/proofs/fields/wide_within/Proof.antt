@@ -1,4 +1,4 @@
--- `soundness::fields::wide_within` meets its contract. Written by a script from tools/answers_soundness.txt. Assumes nothing.
+-- `soundness::fields::wide_within` meets its contract. Written by a script from tools/answers/soundness.txt. Assumes nothing.
 use mathlib.Core.Path.{refl}
 use borrow.Author.Needs.{needs}
 use Rattle.layout.specs.Exprs.{wide}

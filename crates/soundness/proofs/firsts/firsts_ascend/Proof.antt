@@ -1,4 +1,4 @@
--- `soundness::firsts::firsts_ascend` meets its contract. Written by a script from tools/answers_soundness.txt. Assumes nothing.
+-- `soundness::firsts::firsts_ascend` meets its contract. Written by a script from tools/answers/soundness.txt. Assumes nothing.
 use native.Mathlib.Omega.{arith}
 use Prim.Native.Nat.{_+_, _-_, _*_, _≤_}
 use mathlib.Core.Path.{_≡_, sym}

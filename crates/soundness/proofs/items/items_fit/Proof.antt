@@ -1,4 +1,4 @@
--- `soundness::items::items_fit` meets its contract. Written by a script from tools/answers_soundness.txt. Assumes nothing.
+-- `soundness::items::items_fit` meets its contract. Written by a script from tools/answers/soundness.txt. Assumes nothing.
 use borrow.Author.Tests.{not-true, not-false}
 use native.Mathlib.Omega.{arith}
 use Prim.Native.Nat.{_-_, _≤_}

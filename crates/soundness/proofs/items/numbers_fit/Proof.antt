@@ -1,4 +1,4 @@
--- `soundness::items::numbers_fit` meets its contract. Written by a script from tools/answers_soundness.txt. Assumes nothing.
+-- `soundness::items::numbers_fit` meets its contract. Written by a script from tools/answers/soundness.txt. Assumes nothing.
 use mathlib.Core.Path.{_∙_}
 use borrow.Author.Needs.{needs}
 use Rattle.soundness.proofs.SoundRowLaws.{child-item, text-item, bare-item, named-item, default-item, name-and-child, child-and-child}

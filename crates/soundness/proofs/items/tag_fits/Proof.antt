@@ -1,4 +1,4 @@
--- `soundness::items::tag_fits` meets its contract. Written by a script from tools/answers_soundness.txt. Assumes nothing.
+-- `soundness::items::tag_fits` meets its contract. Written by a script from tools/answers/soundness.txt. Assumes nothing.
 use Rattle.soundness.proofs.SoundRowLaws.{tags-15, tags-16, tags-17, tags-to-10, tags-to-14, tags-to-19, tags-to-21, tags-to-24, tags-to-26, tags-from-27}
 use Rattle.soundness.proofs.items.tag_fits.Statement.{statement}
 use Rattle.soundness.proofs.items.tag_fits.Tie as tie

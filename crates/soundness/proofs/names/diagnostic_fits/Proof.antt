@@ -1,4 +1,4 @@
--- `soundness::names::diagnostic_fits` meets its contract. Written by a script from tools/answers_soundness.txt. Assumes nothing.
+-- `soundness::names::diagnostic_fits` meets its contract. Written by a script from tools/answers/soundness.txt. Assumes nothing.
 use borrow.Author.Needs.{needs}
 use Rattle.soundness.proofs.names.diagnostic_fits.Statement.{statement}
 use Rattle.soundness.proofs.names.diagnostic_fits.Tie as tie

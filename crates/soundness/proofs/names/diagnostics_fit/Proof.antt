@@ -1,18 +1,19 @@
--- `soundness::names::diagnostics_fit` meets its contract. Written by a script from tools/answers_soundness.txt. Assumes nothing.
+-- `soundness::names::diagnostics_fit` meets its contract. Written by a script from tools/answers/soundness.txt. Assumes nothing.
 use borrow.Author.Tests.{not-true, not-false}
 use native.Mathlib.Omega.{arith}
 use Prim.Native.Nat.{_+_, _-_, _*_}
 use mathlib.Core.Bool.{true}
 use mathlib.Core.Path.{_≡_, sym, _∙_}
 use Rattle.soundness.proofs.SoundLaws.{all-none, all-more, all-fails, all-fewer}
-use Rattle.soundness.specs.Sound.{allTo, textFits, diagnosticsFit}
-use Rattle.layout.specs.Layout.{diagnosticsAt}
+use Rattle.soundness.specs.Sound.{allTo, diagnosticsFit}
+use Rattle.texts.specs.Fits.{textFits}
+use Rattle.layout.specs.Layout.{diagnosticsAt, diagnosticRow}
 use Rattle.words.specs.Words.{word}
 use Rattle.soundness.proofs.names.diagnostics_fit.Statement.{statement}
 use Rattle.soundness.proofs.names.diagnostics_fit.Tie as tie
 
 abbrev Inv-loop : tie.InvT-loop
-Inv-loop store counts n i₀ i = allTo (λ k. textFits store (word store (diagnosticsAt + 28 * k))) i ≡ true
+Inv-loop store counts n i₀ i = allTo (λ k. textFits store (word store (diagnosticsAt + diagnosticRow * k))) i ≡ true
 
 abbrev μ-loop : tie.MeasureT-loop
 μ-loop store counts n i₀ i = counts .diagnostics - i

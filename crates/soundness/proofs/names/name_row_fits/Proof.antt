@@ -1,4 +1,4 @@
--- `soundness::names::name_row_fits` meets its contract. Written by a script from tools/answers_soundness.txt. Assumes nothing.
+-- `soundness::names::name_row_fits` meets its contract. Written by a script from tools/answers/soundness.txt. Assumes nothing.
 use borrow.Author.Needs.{needs}
 use Rattle.soundness.specs.Sound.{nameRowFits}
 use Rattle.soundness.proofs.names.name_row_fits.Statement.{statement}
@@ -32,4 +32,12 @@ returns c = rw (c .text-fits .ensures, c .before .before .get32 .ensures, c .bef
 pub name-row-fits-spec : {M : Type 1} → statement M
 name-row-fits-spec =
     tie.close
-    (tie.spec cast-at mul-at add-at add-get32 get32-requires get32-requires-2 text-fits-requires returns)
+    (tie.spec
+    cast-at
+    mul-at
+    add-at
+    add-get32
+    get32-requires
+    get32-requires-2
+    text-fits-requires
+    returns)

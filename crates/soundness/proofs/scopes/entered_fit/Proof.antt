@@ -1,4 +1,4 @@
--- `soundness::scopes::entered_fit` meets its contract. Written by a script from tools/answers_soundness.txt. Assumes nothing.
+-- `soundness::scopes::entered_fit` meets its contract. Written by a script from tools/answers/soundness.txt. Assumes nothing.
 use native.Mathlib.Omega.{arith}
 use Prim.Native.Nat.{_+_, _-_, _*_}
 use mathlib.Core.Bool.{true}

@@ -1,4 +1,4 @@
--- `soundness::scopes::scope_fits` meets its contract. Written by a script from tools/answers_soundness.txt. Assumes nothing.
+-- `soundness::scopes::scope_fits` meets its contract. Written by a script from tools/answers/soundness.txt. Assumes nothing.
 use borrow.Author.Needs.{needs}
 use Rattle.soundness.specs.Sound.{scopeFits}
 use Rattle.soundness.proofs.scopes.scope_fits.Statement.{statement}

@@ -1,4 +1,4 @@
--- `soundness::scopes::scopes_fit` meets its contract. Written by a script from tools/answers_soundness.txt. Assumes nothing.
+-- `soundness::scopes::scopes_fit` meets its contract. Written by a script from tools/answers/soundness.txt. Assumes nothing.
 use borrow.Author.Tests.{not-true, not-false}
 use mathlib.Core.Path.{_∙_}
 use borrow.Author.Needs.{needs}

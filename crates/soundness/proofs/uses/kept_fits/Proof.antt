@@ -1,4 +1,4 @@
--- `soundness::uses::kept_fits` meets its contract. Written by a script from tools/answers_soundness.txt. Assumes nothing.
+-- `soundness::uses::kept_fits` meets its contract. Written by a script from tools/answers/soundness.txt. Assumes nothing.
 use borrow.Author.Tests.{not-true, not-false}
 use borrow.Author.Needs.{needs}
 use Rattle.soundness.proofs.SoundTableLaws.{uses-fail, references-fall, references-within, references-decide}

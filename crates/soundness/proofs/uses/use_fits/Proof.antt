@@ -1,4 +1,4 @@
--- `soundness::uses::use_fits` meets its contract. Written by a script from tools/answers_soundness.txt. Assumes nothing.
+-- `soundness::uses::use_fits` meets its contract. Written by a script from tools/answers/soundness.txt. Assumes nothing.
 use borrow.Author.Needs.{needs}
 use Rattle.soundness.specs.Sound.{useFits}
 use Rattle.soundness.proofs.uses.use_fits.Statement.{statement}
@@ -31,4 +31,5 @@ returns c = rw (c .before .before .before .get32 .ensures, c .before .get322 .en
 
 pub use-fits-spec : {M : Type 1} → statement M
 use-fits-spec =
-    tie.close (tie.spec cast-at mul-at add-at get32-requires add-get32 get32-requires-2 add-result returns)
+    tie.close
+    (tie.spec cast-at mul-at add-at get32-requires add-get32 get32-requires-2 add-result returns)

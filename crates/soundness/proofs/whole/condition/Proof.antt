@@ -1,4 +1,4 @@
--- `soundness::whole::condition` meets its contract. Written by a script from tools/answers_soundness.txt. Assumes nothing.
+-- `soundness::whole::condition` meets its contract. Written by a script from tools/answers/soundness.txt. Assumes nothing.
 use borrow.Author.Tests.{not-true, not-false}
 use native.Mathlib.Omega.{arith}
 use Rattle.soundness.proofs.SoundVerdictLaws.{found-short, found-unsound, found-unloaded, found-fit}

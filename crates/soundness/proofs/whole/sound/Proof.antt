@@ -1,4 +1,4 @@
--- `soundness::whole::sound` meets its contract. Written by a script from tools/answers_soundness.txt. Assumes nothing.
+-- `soundness::whole::sound` meets its contract. Written by a script from tools/answers/soundness.txt. Assumes nothing.
 use borrow.Author.Tests.{not-true, not-false}
 use mathlib.Core.Path.{sym, _∙_}
 use Rattle.soundness.proofs.SoundCountLaws.{counted}

@@ -1,4 +1,4 @@
--- `store::codes::item_row` meets its contract. Written by a script from tools/answers_store.txt. Assumes nothing.
+-- `store::codes::item_row` meets its contract. Written by a script from tools/answers/store.txt. Assumes nothing.
 use mathlib.Core.Path.{refl}
 use borrow.Author.Needs.{needs}
 use Rattle.layout.specs.Exprs as rows

@@ -1,9 +1,8 @@
--- `store::codes::lambda_row` meets its contract. Written by a script from tools/answers_store.txt. Assumes nothing.
+-- `store::codes::lambda_row` meets its contract. Written by a script from tools/answers/store.txt. Assumes nothing.
 use mathlib.Core.Path.{refl}
 use borrow.Author.Needs.{needs}
-use Rattle.store.specs.Codes.{exprWith, sortFor, lambdaSort, ranged, patternWith}
 use Rattle.layout.specs.Exprs as rows
-use Rattle.store.specs.Codes.{exprWith, patternWith}
+use Rattle.store.specs.Codes.{exprWith, sortFor, lambdaSort, ranged, patternWith}
 use Rattle.module.specs.Ids.{nameOf}
 use Rattle.store.proofs.codes.lambda_row.Statement.{statement}
 use Rattle.store.proofs.codes.lambda_row.Tie as tie

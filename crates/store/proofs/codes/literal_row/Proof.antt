@@ -1,10 +1,9 @@
--- `store::codes::literal_row` meets its contract. Written by a script from tools/answers_store.txt. Assumes nothing.
+-- `store::codes::literal_row` meets its contract. Written by a script from tools/answers/store.txt. Assumes nothing.
 use mathlib.Core.Path.{refl, _∙_}
 use borrow.Author.Needs.{needs}
-use Rattle.store.specs.Codes.{exprWith, sortFor, literalSort, ranged}
 use Rattle.store.proofs.CodeLaws.{float-says, integer-says}
 use Rattle.layout.specs.Exprs as rows
-use Rattle.store.specs.Codes.{exprWith}
+use Rattle.store.specs.Codes.{exprWith, sortFor, literalSort, ranged}
 use Rattle.module.proofs.LiteralLaws.{unsigned-in}
 use Rattle.module.specs.Literals.{literalOf}
 use Rattle.store.proofs.codes.literal_row.Statement.{statement}

@@ -1,9 +1,8 @@
--- `store::codes::row_of` meets its contract. Written by a script from tools/answers_store.txt. Assumes nothing.
+-- `store::codes::row_of` meets its contract. Written by a script from tools/answers/store.txt. Assumes nothing.
 use mathlib.Core.Path.{refl}
 use borrow.Author.Needs.{needs}
-use Rattle.store.specs.Codes.{exprWith, sortFor, ranged, ValidExpr}
 use Rattle.layout.specs.Exprs as rows
-use Rattle.store.specs.Codes.{exprWith, ValidExpr}
+use Rattle.store.specs.Codes.{exprWith, sortFor, ranged, ValidExpr}
 use Rattle.store.proofs.codes.row_of.Statement.{statement}
 use Rattle.store.proofs.codes.row_of.Tie as tie
 

@@ -1,9 +1,8 @@
--- `store::codes::select_row` meets its contract. Written by a script from tools/answers_store.txt. Assumes nothing.
+-- `store::codes::select_row` meets its contract. Written by a script from tools/answers/store.txt. Assumes nothing.
 use mathlib.Core.Path.{refl}
 use borrow.Author.Needs.{needs}
-use Rattle.store.specs.Codes.{exprWith, sortFor, selectSort, ranged}
 use Rattle.layout.specs.Exprs as rows
-use Rattle.store.specs.Codes.{exprWith}
+use Rattle.store.specs.Codes.{exprWith, sortFor, selectSort, ranged}
 use Rattle.module.specs.Ids.{exprOf}
 use Rattle.store.proofs.codes.select_row.Statement.{statement}
 use Rattle.store.proofs.codes.select_row.Tie as tie

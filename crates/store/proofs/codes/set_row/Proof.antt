@@ -1,8 +1,7 @@
--- `store::codes::set_row` meets its contract. Written by a script from tools/answers_store.txt. Assumes nothing.
+-- `store::codes::set_row` meets its contract. Written by a script from tools/answers/store.txt. Assumes nothing.
 use mathlib.Core.Path.{refl}
-use Rattle.store.specs.Codes.{exprWith, sortFor, ranged}
 use Rattle.layout.specs.Exprs as rows
-use Rattle.store.specs.Codes.{exprWith}
+use Rattle.store.specs.Codes.{exprWith, sortFor, ranged}
 use Rattle.store.proofs.codes.set_row.Statement.{statement}
 use Rattle.store.proofs.codes.set_row.Tie as tie
 

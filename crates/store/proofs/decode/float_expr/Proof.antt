@@ -1,4 +1,4 @@
--- `store::decode::float_expr` meets its contract. Written by a script from tools/answers_store.txt. Assumes nothing.
+-- `store::decode::float_expr` meets its contract. Written by a script from tools/answers/store.txt. Assumes nothing.
 use borrow.Author.Needs.{needs}
 use Rattle.store.proofs.ReadLaws.{float-read, float-unread}
 use Rattle.store.proofs.decode.float_expr.Statement.{statement}

@@ -1,4 +1,4 @@
--- `store::decode::integer_expr` meets its contract. Written by a script from tools/answers_store.txt. Assumes nothing.
+-- `store::decode::integer_expr` meets its contract. Written by a script from tools/answers/store.txt. Assumes nothing.
 use mathlib.Core.Path.{refl}
 use borrow.Author.Needs.{needs}
 use Rattle.store.proofs.ReadLaws.{integer-read, integer-unread}

@@ -1,4 +1,4 @@
--- `store::decode::item_of` meets its contract. Written by a script from tools/answers_store.txt. Assumes nothing.
+-- `store::decode::item_of` meets its contract. Written by a script from tools/answers/store.txt. Assumes nothing.
 use mathlib.Core.Path.{refl}
 use Rattle.store.proofs.ReadLaws.{last-item-read}
 use Rattle.layout.specs.Exprs as rows

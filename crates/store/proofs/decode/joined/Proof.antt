@@ -1,4 +1,4 @@
--- `store::decode::joined` meets its contract. Written by a script from tools/answers_store.txt. Assumes nothing.
+-- `store::decode::joined` meets its contract. Written by a script from tools/answers/store.txt. Assumes nothing.
 use native.Mathlib.Omega.{arith}
 use borrow.Author.Needs.{needs}
 use Rattle.layout.specs.Exprs as rows

@@ -1,4 +1,4 @@
--- `store::exprs::alloc_expr` meets its contract. Written by a script from tools/answers_store.txt. Assumes nothing.
+-- `store::exprs::alloc_expr` meets its contract. Written by a script from tools/answers/store.txt. Assumes nothing.
 use borrow.Author.Needs.{needs}
 use Rattle.store.proofs.ExprLaws.{expr-allocated}
 use Rattle.store.proofs.exprs.alloc_expr.Statement.{statement}

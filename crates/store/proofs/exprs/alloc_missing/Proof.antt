@@ -1,4 +1,4 @@
--- `store::exprs::alloc_missing` meets its contract. Written by a script from tools/answers_store.txt. Assumes nothing.
+-- `store::exprs::alloc_missing` meets its contract. Written by a script from tools/answers/store.txt. Assumes nothing.
 use mathlib.Core.Path.{refl}
 use borrow.Author.Needs.{needs}
 use Rattle.soundness.specs.Coded.{fieldsCoded}

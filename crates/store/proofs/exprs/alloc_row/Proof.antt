@@ -1,13 +1,9 @@
--- `store::exprs::alloc_row` meets its contract. Written by a script from tools/answers_store.txt. Assumes nothing.
+-- `store::exprs::alloc_row` meets its contract. Written by a script from tools/answers/store.txt. Assumes nothing.
 use mathlib.Core.Path.{_∙_}
 use native.Mathlib.Omega.{arith}
 use borrow.Author.Needs.{needs}
-use Rattle.module.proofs.CounterLaws.{room-left, room-gone}
-use Rattle.module.proofs.CounterLaws.{room-left, room-gone}
 use Rattle.store.proofs.ExprLaws.{did-where, row-full, row-crowded, row-allocated}
-use Rattle.module.proofs.CounterLaws.{room-left, room-gone}
-use Rattle.module.proofs.CounterLaws.{room-left, room-gone}
-use Rattle.store.proofs.ExprLaws.{row-full, row-crowded, row-allocated}
+use Rattle.layout.specs.Layout.{exprLimit}
 use Rattle.module.proofs.CounterLaws.{room-left, room-gone}
 use Rattle.store.proofs.exprs.alloc_row.Statement.{statement}
 use Rattle.store.proofs.exprs.alloc_row.Tie as tie
@@ -28,7 +24,7 @@ add-get32 : tie.Need-add-get32
 add-get32 c = search needs
 
 get32-requires : tie.Need-get32-requires
-get32-requires c κs = omega (arith, room-left (c .before .before .before .has-room .result) (c .before .before .before .before .counter .result .used) 16384 (c .before .before .before .has-room .ensures) (c .before .before .if1 .taken), c .wide .ensures)
+get32-requires c κs = omega (arith, room-left (c .before .before .before .has-room .result) (c .before .before .before .before .counter .result .used) exprLimit (c .before .before .before .has-room .ensures) (c .before .before .if1 .taken), c .wide .ensures)
 
 waiting-from-requires : tie.Need-waiting-from-requires
 waiting-from-requires c κs = search needs

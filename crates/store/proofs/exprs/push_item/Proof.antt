@@ -1,8 +1,9 @@
--- `store::exprs::push_item` meets its contract. Written by a script from tools/answers_store.txt. Assumes nothing.
+-- `store::exprs::push_item` meets its contract. Written by a script from tools/answers/store.txt. Assumes nothing.
 use mathlib.Core.Path.{_∙_}
 use native.Mathlib.Omega.{arith}
 use borrow.Author.Needs.{needs}
 use Rattle.store.proofs.ExprLaws.{item-pushed, item-unpushed}
+use Rattle.layout.specs.Layout.{waitingLimit}
 use Rattle.module.proofs.CounterLaws.{room-left, room-gone, small-next}
 use Rattle.store.proofs.exprs.push_item.Statement.{statement}
 use Rattle.store.proofs.exprs.push_item.Tie as tie
@@ -32,7 +33,7 @@ add-put-three : tie.Need-add-put-three
 add-put-three c = search needs
 
 put-three-requires : tie.Need-put-three-requires
-put-three-requires c κs = omega (arith, room-left (c .before .before .before .before .before .before .before .has-room .result) (c .before .before .before .before .before .before .before .before .counter .result .used) 16384 (c .before .before .before .before .before .before .before .has-room .ensures) (c .before .before .before .before .before .before .if1 .taken), c .wide .ensures)
+put-three-requires c κs = omega (arith, room-left (c .before .before .before .before .before .before .before .has-room .result) (c .before .before .before .before .before .before .before .before .counter .result .used) waitingLimit (c .before .before .before .before .before .before .before .has-room .ensures) (c .before .before .before .before .before .before .if1 .taken), c .wide .ensures)
 
 put32-requires : tie.Need-put32-requires
 put32-requires c κs = search needs

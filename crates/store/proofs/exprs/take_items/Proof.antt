@@ -1,4 +1,4 @@
--- `store::exprs::take_items` meets its contract. Written by a script from tools/answers_store.txt. Assumes nothing.
+-- `store::exprs::take_items` meets its contract. Written by a script from tools/answers/store.txt. Assumes nothing.
 use native.Mathlib.Omega.{arith}
 use borrow.Author.Needs.{needs}
 use Rattle.store.proofs.ExprLaws.{took-some, took-none, take-inside, moved-as}

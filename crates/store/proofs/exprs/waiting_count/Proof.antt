@@ -1,4 +1,4 @@
--- `store::exprs::waiting_count` meets its contract. Written by a script from tools/answers_store.txt. Assumes nothing.
+-- `store::exprs::waiting_count` meets its contract. Written by a script from tools/answers/store.txt. Assumes nothing.
 use borrow.Author.Needs.{needs}
 use Rattle.store.proofs.ExprLaws.{waiting-counted}
 use Rattle.store.proofs.exprs.waiting_count.Statement.{statement}

@@ -1,4 +1,4 @@
--- `store::exprs::waiting_from` meets its contract. Written by a script from tools/answers_store.txt. Assumes nothing.
+-- `store::exprs::waiting_from` meets its contract. Written by a script from tools/answers/store.txt. Assumes nothing.
 use borrow.Author.Needs.{needs}
 use Rattle.store.proofs.ExprLaws.{from-some, from-none}
 use Rattle.store.proofs.exprs.waiting_from.Statement.{statement}

@@ -1,4 +1,4 @@
--- `store::header::clear` meets its contract. Written by a script from tools/answers_store.txt. Assumes nothing.
+-- `store::header::clear` meets its contract. Written by a script from tools/answers/store.txt. Assumes nothing.
 use borrow.Author.Needs.{needs}
 use Rattle.store.proofs.ClearLaws.{cleared}
 use Rattle.store.proofs.header.clear.Statement.{statement}

@@ -1,4 +1,4 @@
--- `store::held::has_text` meets its contract. Written by a script from tools/answers_store.txt. Assumes nothing.
+-- `store::held::has_text` meets its contract. Written by a script from tools/answers/store.txt. Assumes nothing.
 use Rattle.store.proofs.HeldLaws.{text-first, text-second, text-third}
 use Rattle.store.proofs.held.has_text.Statement.{statement}
 use Rattle.store.proofs.held.has_text.Tie as tie

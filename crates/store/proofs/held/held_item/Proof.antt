@@ -1,4 +1,4 @@
--- `store::held::held_item` meets its contract. Written by a script from tools/answers_store.txt. Assumes nothing.
+-- `store::held::held_item` meets its contract. Written by a script from tools/answers/store.txt. Assumes nothing.
 use borrow.Author.Needs.{needs}
 use Rattle.store.proofs.HeldLaws.{item-held, item-itself}
 use Rattle.store.proofs.held.held_item.Statement.{statement}

@@ -1,4 +1,4 @@
--- `store::held::held_row` meets its contract. Written by a script from tools/answers_store.txt. Assumes nothing.
+-- `store::held::held_row` meets its contract. Written by a script from tools/answers/store.txt. Assumes nothing.
 use borrow.Author.Needs.{needs}
 use Rattle.store.proofs.HeldLaws.{row-held, row-itself}
 use Rattle.store.proofs.held.held_row.Statement.{statement}

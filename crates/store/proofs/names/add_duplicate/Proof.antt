@@ -1,4 +1,4 @@
--- `store::names::add_duplicate` meets its contract. Written by a script from tools/answers_store.txt. Assumes nothing.
+-- `store::names::add_duplicate` meets its contract. Written by a script from tools/answers/store.txt. Assumes nothing.
 use mathlib.Core.Logic.{inl, inr}
 use native.Mathlib.Omega.{arith}
 use borrow.Author.Needs.{needs}

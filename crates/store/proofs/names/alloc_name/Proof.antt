@@ -1,4 +1,4 @@
--- `store::names::alloc_name` meets its contract. Written by a script from tools/answers_store.txt. Assumes nothing.
+-- `store::names::alloc_name` meets its contract. Written by a script from tools/answers/store.txt. Assumes nothing.
 use borrow.Author.Needs.{needs}
 use Rattle.store.proofs.NameLaws.{name-held}
 use Rattle.store.proofs.names.alloc_name.Statement.{statement}

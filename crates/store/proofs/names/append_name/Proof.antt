@@ -1,8 +1,9 @@
--- `store::names::append_name` meets its contract. Written by a script from tools/answers_store.txt. Assumes nothing.
+-- `store::names::append_name` meets its contract. Written by a script from tools/answers/store.txt. Assumes nothing.
 use mathlib.Core.Path.{_∙_}
 use native.Mathlib.Omega.{arith}
 use borrow.Author.Needs.{needs}
 use Rattle.store.proofs.NameLaws.{name-put, name-full}
+use Rattle.layout.specs.Layout.{nameLimit}
 use Rattle.module.proofs.CounterLaws.{room-left, room-gone, small-next}
 use Rattle.store.proofs.names.append_name.Statement.{statement}
 use Rattle.store.proofs.names.append_name.Tie as tie
@@ -29,7 +30,7 @@ add-put-two : tie.Need-add-put-two
 add-put-two c = search needs
 
 put-two-requires : tie.Need-put-two-requires
-put-two-requires c κs = omega (arith, room-left (c .before .before .before .before .before .has-room .result) (c .before .before .before .before .before .before .counter .result .used) 4096 (c .before .before .before .before .before .has-room .ensures) (c .before .before .before .before .if1 .taken), c .before .before .before .wide .ensures)
+put-two-requires c κs = omega (arith, room-left (c .before .before .before .before .before .has-room .result) (c .before .before .before .before .before .before .counter .result .used) nameLimit (c .before .before .before .before .before .has-room .ensures) (c .before .before .before .before .if1 .taken), c .before .before .before .wide .ensures)
 
 mul-put-pointer : tie.Need-mul-put-pointer
 mul-put-pointer c = search needs
@@ -38,7 +39,7 @@ add-put-pointer : tie.Need-add-put-pointer
 add-put-pointer c = search needs
 
 put-pointer-requires : tie.Need-put-pointer-requires
-put-pointer-requires c κs = omega (arith, room-left (c .before .before .before .before .before .before .before .before .before .has-room .result) (c .before .before .before .before .before .before .before .before .before .before .counter .result .used) 4096 (c .before .before .before .before .before .before .before .before .before .has-room .ensures) (c .before .before .before .before .before .before .before .before .if1 .taken), c .before .before .before .before .before .before .before .wide .ensures)
+put-pointer-requires c κs = omega (arith, room-left (c .before .before .before .before .before .before .before .before .before .has-room .result) (c .before .before .before .before .before .before .before .before .before .before .counter .result .used) nameLimit (c .before .before .before .before .before .before .before .before .before .has-room .ensures) (c .before .before .before .before .before .before .before .before .if1 .taken), c .before .before .before .before .before .before .before .wide .ensures)
 
 put32-requires : tie.Need-put32-requires
 put32-requires c κs = search needs

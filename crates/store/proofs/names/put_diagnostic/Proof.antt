@@ -1,4 +1,4 @@
--- `store::names::put_diagnostic` meets its contract. Written by a script from tools/answers_store.txt. Assumes nothing.
+-- `store::names::put_diagnostic` meets its contract. Written by a script from tools/answers/store.txt. Assumes nothing.
 use mathlib.Core.Path.{_∙_}
 use native.Mathlib.Omega.{arith}
 use borrow.Author.Needs.{needs}

@@ -1,4 +1,4 @@
--- `store::read_counts::entry` meets its contract. Written by a script from tools/answers_store.txt. Assumes nothing.
+-- `store::read_counts::entry` meets its contract. Written by a script from tools/answers/store.txt. Assumes nothing.
 use borrow.Author.Needs.{needs}
 use Rattle.layout.specs.States.{moduleIn}
 use Rattle.spec.specs.Lower.{moduleOf}

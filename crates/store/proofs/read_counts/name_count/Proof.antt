@@ -1,4 +1,4 @@
--- `store::read_counts::name_count` meets its contract. Written by a script from tools/answers_store.txt. Assumes nothing.
+-- `store::read_counts::name_count` meets its contract. Written by a script from tools/answers/store.txt. Assumes nothing.
 use borrow.Author.Needs.{needs}
 use Rattle.store.proofs.ReadLaws.{names-counted}
 use Rattle.store.proofs.read_counts.name_count.Statement.{statement}

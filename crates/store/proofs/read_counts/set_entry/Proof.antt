@@ -1,4 +1,4 @@
--- `store::read_counts::set_entry` meets its contract. Written by a script from tools/answers_store.txt. Assumes nothing.
+-- `store::read_counts::set_entry` meets its contract. Written by a script from tools/answers/store.txt. Assumes nothing.
 use native.Mathlib.Omega.{arith}
 use borrow.Author.Needs.{needs}
 use Rattle.store.proofs.ReadLaws.{entry-set}

@@ -1,4 +1,4 @@
--- `store::read_diagnostics::diagnostic_key` meets its contract. Written by a script from tools/answers_store.txt. Assumes nothing.
+-- `store::read_diagnostics::diagnostic_key` meets its contract. Written by a script from tools/answers/store.txt. Assumes nothing.
 use borrow.Author.Needs.{needs}
 use Rattle.store.proofs.ReadLaws.{key-in, key-out}
 use Rattle.store.proofs.read_diagnostics.diagnostic_key.Statement.{statement}

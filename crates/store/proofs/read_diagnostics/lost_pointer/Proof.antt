@@ -1,4 +1,4 @@
--- `store::read_diagnostics::lost_pointer` meets its contract. Written by a script from tools/answers_store.txt. Assumes nothing.
+-- `store::read_diagnostics::lost_pointer` meets its contract. Written by a script from tools/answers/store.txt. Assumes nothing.
 use borrow.Author.Needs.{needs}
 use Rattle.store.proofs.ReadLaws.{lost-in, lost-out}
 use Rattle.store.specs.Readers.{nowhere}

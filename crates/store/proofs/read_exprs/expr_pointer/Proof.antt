@@ -1,4 +1,4 @@
--- `store::read_exprs::expr_pointer` meets its contract. Written by a script from tools/answers_store.txt. Assumes nothing.
+-- `store::read_exprs::expr_pointer` meets its contract. Written by a script from tools/answers/store.txt. Assumes nothing.
 use borrow.Author.Needs.{needs}
 use Rattle.store.proofs.ReadLaws.{pointer-out, pointer-none, pointer-some}
 use Rattle.store.specs.Readers.{maybePointerOf}

@@ -1,4 +1,4 @@
--- `store::read_exprs::get_item` meets its contract. Written by a script from tools/answers_store.txt. Assumes nothing.
+-- `store::read_exprs::get_item` meets its contract. Written by a script from tools/answers/store.txt. Assumes nothing.
 use mathlib.Core.Path.{_∙_}
 use borrow.Author.Needs.{needs}
 use Rattle.layout.specs.Exprs.{itemAt}

@@ -1,4 +1,4 @@
--- `store::read_exprs::item_count` meets its contract. Written by a script from tools/answers_store.txt. Assumes nothing.
+-- `store::read_exprs::item_count` meets its contract. Written by a script from tools/answers/store.txt. Assumes nothing.
 use borrow.Author.Needs.{needs}
 use Rattle.store.proofs.ReadLaws.{covers-count}
 use Rattle.store.proofs.read_exprs.item_count.Statement.{statement}

@@ -1,4 +1,4 @@
--- `store::read_names::name_text` meets its contract. Written by a script from tools/answers_store.txt. Assumes nothing.
+-- `store::read_names::name_text` meets its contract. Written by a script from tools/answers/store.txt. Assumes nothing.
 use borrow.Author.Needs.{needs}
 use Rattle.store.proofs.ReadLaws.{name-text-in, name-text-out}
 use Rattle.store.proofs.read_names.name_text.Statement.{statement}

@@ -1,16 +1,17 @@
--- `store::source_map::expr_for_node` meets its contract. Written by a script from tools/answers_store.txt. Assumes nothing.
+-- `store::source_map::expr_for_node` meets its contract. Written by a script from tools/answers/store.txt. Assumes nothing.
 use native.Mathlib.Omega.{arith}
 use Prim.Native.Nat.{_≤_}
 use mathlib.Core.Path.{_≡_}
 use Rattle.store.proofs.SourceMapLaws.{lastOf, exprPointer, exprs-asked, last-found, last-passed, last-lacked}
 use Rattle.layout.specs.States.{moduleIn}
+use Rattle.layout.specs.Layout.{exprLimit}
 use Rattle.module.specs.Ids.{exprOf, pointerOf}
 use Rattle.spec.specs.Module.{exprForNode}
 use Rattle.store.proofs.source_map.expr_for_node.Statement.{statement}
 use Rattle.store.proofs.source_map.expr_for_node.Tie as tie
 
 abbrev Inv-loop : tie.InvT-loop
-Inv-loop store p n₀ n = (exprForNode (moduleIn store) (pointerOf p) ≡ lastOf (pointerOf p) (exprPointer store) n) × (n ≤ 16384)
+Inv-loop store p n₀ n = (exprForNode (moduleIn store) (pointerOf p) ≡ lastOf (pointerOf p) (exprPointer store) n) × (n ≤ exprLimit)
 
 abbrev μ-loop : tie.MeasureT-loop
 μ-loop store p n₀ n = n

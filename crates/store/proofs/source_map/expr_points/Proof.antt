@@ -1,4 +1,4 @@
--- `store::source_map::expr_points` meets its contract. Written by a script from tools/answers_store.txt. Assumes nothing.
+-- `store::source_map::expr_points` meets its contract. Written by a script from tools/answers/store.txt. Assumes nothing.
 use borrow.Author.Needs.{needs}
 use Rattle.store.proofs.SourceMapLaws.{expr-unpointed, expr-pointed}
 use Rattle.store.proofs.source_map.expr_points.Statement.{statement}

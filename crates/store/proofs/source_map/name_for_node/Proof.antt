@@ -1,16 +1,17 @@
--- `store::source_map::name_for_node` meets its contract. Written by a script from tools/answers_store.txt. Assumes nothing.
+-- `store::source_map::name_for_node` meets its contract. Written by a script from tools/answers/store.txt. Assumes nothing.
 use native.Mathlib.Omega.{arith}
 use Prim.Native.Nat.{_≤_}
 use mathlib.Core.Path.{_≡_}
 use Rattle.store.proofs.SourceMapLaws.{lastOf, namePointer, names-asked, name-pointed, last-found, last-passed, last-lacked}
 use Rattle.layout.specs.States.{moduleIn}
+use Rattle.layout.specs.Layout.{nameLimit}
 use Rattle.module.specs.Ids.{nameOf, pointerOf}
 use Rattle.spec.specs.Module.{nameForNode}
 use Rattle.store.proofs.source_map.name_for_node.Statement.{statement}
 use Rattle.store.proofs.source_map.name_for_node.Tie as tie
 
 abbrev Inv-loop : tie.InvT-loop
-Inv-loop store p n₀ n = (nameForNode (moduleIn store) (pointerOf p) ≡ lastOf (pointerOf p) (namePointer store) n) × (n ≤ 4096)
+Inv-loop store p n₀ n = (nameForNode (moduleIn store) (pointerOf p) ≡ lastOf (pointerOf p) (namePointer store) n) × (n ≤ nameLimit)
 
 abbrev μ-loop : tie.MeasureT-loop
 μ-loop store p n₀ n = n

@@ -1,4 +1,4 @@
--- `store::source_map::same_pointer` meets its contract. Written by a script from tools/answers_store.txt. Assumes nothing.
+-- `store::source_map::same_pointer` meets its contract. Written by a script from tools/answers/store.txt. Assumes nothing.
 use borrow.Author.Needs.{needs}
 use Rattle.layout.specs.Exprs.{pointerAt}
 use Rattle.module.specs.Ids.{pointerOf}

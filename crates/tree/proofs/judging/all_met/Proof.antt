@@ -1,4 +1,4 @@
--- `tree::judging::all_met` meets its contract. Written by a script from tools/answers_tree.txt. Assumes nothing.
+-- `tree::judging::all_met` meets its contract. Written by a script from tools/answers/tree.txt. Assumes nothing.
 use borrow.Author.Needs.{needs}
 use Rattle.tree.proofs.JudgeLaws.{met-all, met-few, stopped-as}
 use Rattle.tree.proofs.judging.all_met.Statement.{statement}

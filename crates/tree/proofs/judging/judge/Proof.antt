@@ -1,4 +1,4 @@
--- `tree::judging::judge` meets its contract. Written by a script from tools/answers_tree.txt. Assumes nothing.
+-- `tree::judging::judge` meets its contract. Written by a script from tools/answers/tree.txt. Assumes nothing.
 use borrow.Author.Needs.{needs}
 use Rattle.tree.proofs.JudgeLaws.{lines-refused, lines-accepted}
 use Rattle.tree.proofs.judging.judge.Statement.{statement}

@@ -1,4 +1,4 @@
--- `tree::judging::judge_tree` meets its contract. Written by a script from tools/answers_tree.txt. Assumes nothing.
+-- `tree::judging::judge_tree` meets its contract. Written by a script from tools/answers/tree.txt. Assumes nothing.
 use mathlib.Core.Path.{_∙_}
 use borrow.Author.Needs.{needs}
 use Rattle.tree.proofs.JudgeLaws.{some-nodes, root-stands, tree-judged}

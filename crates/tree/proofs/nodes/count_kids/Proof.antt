@@ -1,4 +1,4 @@
--- `tree::nodes::count_kids` meets its contract. Written by a script from tools/answers_tree.txt. Assumes nothing.
+-- `tree::nodes::count_kids` meets its contract. Written by a script from tools/answers/tree.txt. Assumes nothing.
 use borrow.Author.Needs.{needs}
 use lib.ListN.{length}
 use native.Mathlib.Omega.{arith}

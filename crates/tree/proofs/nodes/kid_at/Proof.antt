@@ -1,4 +1,4 @@
--- `tree::nodes::kid_at` meets its contract. Written by a script from tools/answers_tree.txt. Assumes nothing.
+-- `tree::nodes::kid_at` meets its contract. Written by a script from tools/answers/tree.txt. Assumes nothing.
 use borrow.Author.Needs.{needs}
 use Rattle.tree.proofs.NodeLaws.{step-end, step-absent, step-number, never-malformed}
 use Rattle.tree.proofs.nodes.kid_at.Statement.{statement}

@@ -1,4 +1,4 @@
--- `tree::nodes::lines_of` meets its contract. Written by a script from tools/answers_tree.txt. Assumes nothing.
+-- `tree::nodes::lines_of` meets its contract. Written by a script from tools/answers/tree.txt. Assumes nothing.
 use native.Mathlib.Omega.{arith}
 use borrow.Author.Needs.{needs}
 use Rattle.tree.proofs.NodeLaws.{lines-read, never-bad}

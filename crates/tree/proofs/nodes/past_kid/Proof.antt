@@ -1,4 +1,4 @@
--- `tree::nodes::past_kid` meets its contract. Written by a script from tools/answers_tree.txt. Assumes nothing.
+-- `tree::nodes::past_kid` meets its contract. Written by a script from tools/answers/tree.txt. Assumes nothing.
 use borrow.Author.Needs.{needs}
 use Rattle.tree.proofs.NodeLaws.{no-kids, absent-passed, number-passed}
 use Rattle.tree.proofs.nodes.past_kid.Statement.{statement}

@@ -1,4 +1,4 @@
--- `tree::places::count_fits` meets its contract. Written by a script from tools/answers_tree.txt. Assumes nothing.
+-- `tree::places::count_fits` meets its contract. Written by a script from tools/answers/tree.txt. Assumes nothing.
 use mathlib.Core.Path.{ap}
 use borrow.Author.Needs.{needs}
 use Rattle.tree.proofs.PlaceLaws.{count-exact, count-short, count-long}

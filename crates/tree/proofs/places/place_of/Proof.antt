@@ -1,4 +1,4 @@
--- `tree::places::place_of` meets its contract. Written by a script from tools/answers_tree.txt. Assumes nothing.
+-- `tree::places::place_of` meets its contract. Written by a script from tools/answers/tree.txt. Assumes nothing.
 use mathlib.Core.Path.{ap}
 use borrow.Author.Needs.{needs}
 use Rattle.tree.specs.Places.{countedOf}

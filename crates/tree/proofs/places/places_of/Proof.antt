@@ -1,4 +1,4 @@
--- `tree::places::places_of` meets its contract. Written by a script from tools/answers_tree.txt. Assumes nothing.
+-- `tree::places::places_of` meets its contract. Written by a script from tools/answers/tree.txt. Assumes nothing.
 use mathlib.Core.List.{[], _∷_}
 use mathlib.Core.Path.{refl}
 use borrow.Author.Needs.{needs}

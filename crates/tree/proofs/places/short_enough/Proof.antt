@@ -1,4 +1,4 @@
--- `tree::places::short_enough` meets its contract. Written by a script from tools/answers_tree.txt. Assumes nothing.
+-- `tree::places::short_enough` meets its contract. Written by a script from tools/answers/tree.txt. Assumes nothing.
 use borrow.Author.Tests.{eq-eqb, ne-eqb}
 use Rattle.tree.proofs.places.short_enough.Statement.{statement}
 use Rattle.tree.proofs.places.short_enough.Tie as tie

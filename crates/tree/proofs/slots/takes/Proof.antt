@@ -1,4 +1,4 @@
--- `tree::slots::takes` meets its contract. Written by a script from tools/answers_tree.txt. Assumes nothing.
+-- `tree::slots::takes` meets its contract. Written by a script from tools/answers/tree.txt. Assumes nothing.
 use lib.Dec.{eqb, lit≤}
 use mathlib.Core.Path.{_∙_}
 use native.Mathlib.Omega.{arith}

@@ -1,4 +1,4 @@
--- `tree::slots::takes_string` meets its contract. Written by a script from tools/answers_tree.txt. Assumes nothing.
+-- `tree::slots::takes_string` meets its contract. Written by a script from tools/answers/tree.txt. Assumes nothing.
 use borrow.Author.Tests.{eq-eqb, ne-eqb}
 use Rattle.tree.specs.Slots.{stringTaken}
 use Rattle.tree.proofs.slots.takes_string.Statement.{statement}

@@ -1,4 +1,4 @@
--- `tree::walk::after_kid` meets its contract. Written by a script from tools/answers_tree.txt. Assumes nothing.
+-- `tree::walk::after_kid` meets its contract. Written by a script from tools/answers/tree.txt. Assumes nothing.
 use mathlib.Core.Path.{sym}
 use borrow.Author.Needs.{needs}
 use Rattle.tree.proofs.WalkLaws.{after-as}

@@ -1,4 +1,4 @@
--- `words::copying::copy_run` meets its contract. Written by a script from tools/answers_words.txt. Assumes nothing.
+-- `words::copying::copy_run` meets its contract. Written by a script from tools/answers/words.txt. Assumes nothing.
 use native.Mathlib.Omega.{arith}
 use Prim.Native.Nat.{_-_}
 use Rattle.words.proofs.CopyLoops.{Begun, begun-none, begun-more, begun-done}

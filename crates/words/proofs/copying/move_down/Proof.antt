@@ -1,4 +1,4 @@
--- `words::copying::move_down` meets its contract. Written by a script from tools/answers_words.txt. Assumes nothing.
+-- `words::copying::move_down` meets its contract. Written by a script from tools/answers/words.txt. Assumes nothing.
 use native.Mathlib.Omega.{arith}
 use Prim.Native.Nat.{_-_}
 use Rattle.words.proofs.CopyLoops.{Begun, begun-none, begun-down, begun-done}

@@ -1,4 +1,4 @@
--- `words::copying::move_up` meets its contract. Written by a script from tools/answers_words.txt. Assumes nothing.
+-- `words::copying::move_up` meets its contract. Written by a script from tools/answers/words.txt. Assumes nothing.
 use native.Mathlib.Omega.{arith}
 use Rattle.words.proofs.CopyLoops.{Ended, ended-none, ended-more, ended-done}
 use Rattle.words.proofs.copying.move_up.Statement.{statement}

@@ -1,4 +1,4 @@
--- `words::equality::equal` meets its contract. Written by a script from tools/answers_words.txt. Assumes nothing.
+-- `words::equality::equal` meets its contract. Written by a script from tools/answers/words.txt. Assumes nothing.
 use native.Mathlib.Omega.{arith}
 use Prim.Native.Nat.{_-_}
 use Rattle.words.proofs.CompareLoops.{Left, left-none, equal-differ, equal-more, equal-end}

@@ -1,4 +1,4 @@
--- `words::equality::equal_runs` meets its contract. Written by a script from tools/answers_words.txt. Assumes nothing.
+-- `words::equality::equal_runs` meets its contract. Written by a script from tools/answers/words.txt. Assumes nothing.
 use mathlib.Core.Path.{_∙_}
 use borrow.Author.Needs.{needs}
 use Rattle.words.proofs.CompareLoops.{equal-lengths}

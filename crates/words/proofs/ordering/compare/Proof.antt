@@ -1,4 +1,4 @@
--- `words::ordering::compare` meets its contract. Written by a script from tools/answers_words.txt. Assumes nothing.
+-- `words::ordering::compare` meets its contract. Written by a script from tools/answers/words.txt. Assumes nothing.
 use native.Mathlib.Omega.{arith}
 use Prim.Native.Nat.{_-_}
 use Rattle.words.proofs.CompareLoops.{Left, left-none, compare-less, compare-greater, compare-more, compare-longer, compare-shorter, compare-end}

@@ -1,4 +1,4 @@
--- `words::ordering::compare_to` meets its contract. Written by a script from tools/answers_words.txt. Assumes nothing.
+-- `words::ordering::compare_to` meets its contract. Written by a script from tools/answers/words.txt. Assumes nothing.
 use mathlib.Core.Path.{refl}
 use borrow.Author.Needs.{needs}
 use Rattle.words.proofs.CompareLoops.{against-whole}

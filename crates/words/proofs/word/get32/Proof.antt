@@ -1,4 +1,4 @@
--- `words::word::get32` meets its contract. Written by a script from tools/answers_words.txt. Assumes nothing.
+-- `words::word::get32` meets its contract. Written by a script from tools/answers/words.txt. Assumes nothing.
 use native.Mathlib.Omega.{arith}
 use borrow.Author.Needs.{needs}
 use Rattle.words.proofs.WordLaws.{word-bytes}

@@ -1,4 +1,4 @@
--- `words::word::put32` meets its contract. Written by a script from tools/answers_words.txt. Assumes nothing.
+-- `words::word::put32` meets its contract. Written by a script from tools/answers/words.txt. Assumes nothing.
 use native.Mathlib.Omega.{arith}
 use lib.ListN.{length-set}
 use borrow.Author.Needs.{needs}

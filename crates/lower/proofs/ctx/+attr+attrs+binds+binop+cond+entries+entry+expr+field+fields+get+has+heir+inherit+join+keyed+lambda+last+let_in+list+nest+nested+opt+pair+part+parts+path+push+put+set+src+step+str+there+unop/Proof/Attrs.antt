@@ -1,4 +1,4 @@
--- The answers of `attrs`. Written by a script from tools/answers_lower_cycle.txt. Assumes nothing.
+-- The answers of `attrs`. Written by a script from tools/answers/lower.cycle.txt. Assumes nothing.
 use Prim.Native.Nat.{ℕ}
 use borrow.Author.Needs.{needs}
 use native.Mathlib.Omega.{arith}
@@ -10,6 +10,7 @@ use Rattle.lower.proofs.ctx.+attr+attrs+binds+binop+cond+entries+entry+
 use Rattle.lower.proofs.ctx.+attr+attrs+binds+binop+cond+entries+entry+expr+field+fields+get+has+heir+inherit+join+keyed+lambda+last+let_in+list+nest+nested+opt+pair+part+parts+path+push+put+set+src+step+str+there+unop.Proof.Common.{attr-below, attrs-at}
 use Prim.Native.Nat.{_-_}
 use Rattle.module.specs.Ids.{nodeOf}
+use Rattle.layout.specs.Layout.{kidLimit}
 use Rattle.lower.proofs.ReadLaws.{in-end, in-first}
 use Rattle.lower.proofs.Loops.{gathering-end}
 use Rattle.lower.proofs.LoopLaws.{AttrpathLeft, attrpath-start, attrpath-turn}
@@ -21,7 +22,7 @@ abbrev Inv-loop : lts.InvT-loop
 Inv-loop store₀ depth place i₀ store i = AttrpathLeft depth (nodeOf place) store₀ i store
 
 abbrev μ-loop : lts.MeasureT-loop
-μ-loop store₀ depth place i₀ store i = 16384 - i
+μ-loop store₀ depth place i₀ store i = kidLimit - i
 
 loop-holds : (t : ℕ) → lts.Need-loop-holds (calls t) (attrs-at t) attrs.Post Inv-loop μ-loop
 loop-holds t c = attrpath-start _ _ _

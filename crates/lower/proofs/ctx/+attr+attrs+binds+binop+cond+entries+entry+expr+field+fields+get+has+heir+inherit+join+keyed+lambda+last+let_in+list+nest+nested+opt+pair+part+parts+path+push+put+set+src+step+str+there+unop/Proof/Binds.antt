@@ -1,15 +1,15 @@
--- The answers of `binds`. Written by a script from tools/answers_lower_cycle.txt. Assumes nothing.
+-- The answers of `binds`. Written by a script from tools/answers/lower.cycle.txt. Assumes nothing.
 use Prim.Native.Nat.{ℕ}
 use borrow.Author.Needs.{needs}
 use native.Mathlib.Omega.{arith}
 use Rattle.lower.proofs.ctx.binds.Reads as binds
-use Rattle.merging.proofs.cut.Reads as cut-reads
+use Rattle.open_sets.proofs.cut.Reads as cut-reads
 use Rattle.lower.proofs.ctx.entries.Reads as entries
-use Rattle.merging.proofs.entry_count.Reads as entry-count-reads
+use Rattle.open_sets.proofs.entry_count.Reads as entry-count-reads
 use Rattle.merge.proofs.finish_set.Reads as finish-set-reads
 use Rattle.intake.proofs.node_pointer.Reads as node-pointer-reads
-use Rattle.merging.proofs.open_set.Reads as open-set-reads
-use Rattle.merging.proofs.set_count.Reads as set-count-reads
+use Rattle.open_sets.proofs.open_set.Reads as open-set-reads
+use Rattle.open_sets.proofs.set_count.Reads as set-count-reads
 use Rattle.lower.proofs.ctx.+attr+attrs+binds+binop+cond+entries+entry+expr+field+fields+get+has+heir+inherit+join+keyed+lambda+last+let_in+list+nest+nested+opt+pair+part+parts+path+push+put+set+src+step+str+there+unop.Lts-binds as lts
 use Rattle.lower.proofs.ctx.+attr+attrs+binds+binop+cond+entries+entry+expr+field+fields+get+has+heir+inherit+join+keyed+lambda+last+let_in+list+nest+nested+opt+pair+part+parts+path+push+put+set+src+step+str+there+unop.Proof.Common.{binds-at, entries-below}
 use Rattle.lower.proofs.InnerLaws.{desugar-lowers}

@@ -1,4 +1,4 @@
--- The measures of the cycle, what each member is given at the measure t, and what a call of it asks below t. Written by a script from tools/answers_lower_cycle.txt. Assumes nothing.
+-- The measures of the cycle, what each member is given at the measure t, and what a call of it asks below t. Written by a script from tools/answers/lower.cycle.txt. Assumes nothing.
 use Prim.Native.Nat.{ℕ, _<_}
 use borrow.Fn.Kinds.{In}
 use borrow.Fn.PlainCycle.{Measures, is, falls, and}
@@ -73,6 +73,7 @@ use Rattle.lower.proofs.ctx.there.Kinds as there-kinds
 use Rattle.lower.proofs.ctx.unop.Reads as unop
 use Rattle.lower.proofs.ctx.unop.Kinds as unop-kinds
 use Prim.Native.Nat.{_+_, _*_, _-_}
+use Rattle.layout.specs.Layout.{kidLimit}
 
 abbrev pub μ-attr : Measures 1 attr-kinds.ps ℕ
 μ-attr κs a = 131072 * a .1 .0 + 5
@@ -255,7 +256,7 @@ abbrev pub list-below : ℕ → In 1 list-kinds.ps
 list-below t = and 1 list-kinds.ps (falls 1 list-kinds.ps _<_ μ-list t) list.Pre
 
 abbrev pub μ-nest : Measures 1 nest-kinds.ps ℕ
-μ-nest κs a = 131072 * a .1 .0 + 9 + 4 * (16384 - a .1 .1 .1 .1 .1 .0)
+μ-nest κs a = 131072 * a .1 .0 + 9 + 4 * (kidLimit - a .1 .1 .1 .1 .1 .0)
 
 abbrev pub nest-at : ℕ → In 1 nest-kinds.ps
 nest-at t = and 1 nest-kinds.ps (is 1 nest-kinds.ps μ-nest t) nest.Pre
@@ -264,7 +265,7 @@ abbrev pub nest-below : ℕ → In 1 nest-kinds.ps
 nest-below t = and 1 nest-kinds.ps (falls 1 nest-kinds.ps _<_ μ-nest t) nest.Pre
 
 abbrev pub μ-nested : Measures 1 nested-kinds.ps ℕ
-μ-nested κs a = 131072 * a .1 .0 + 8 + 4 * (16384 - a .1 .1 .1 .1 .1 .0)
+μ-nested κs a = 131072 * a .1 .0 + 8 + 4 * (kidLimit - a .1 .1 .1 .1 .1 .0)
 
 abbrev pub nested-at : ℕ → In 1 nested-kinds.ps
 nested-at t = and 1 nested-kinds.ps (is 1 nested-kinds.ps μ-nested t) nested.Pre
@@ -354,7 +355,7 @@ abbrev pub src-below : ℕ → In 1 src-kinds.ps
 src-below t = and 1 src-kinds.ps (falls 1 src-kinds.ps _<_ μ-src t) src.Pre
 
 abbrev pub μ-step : Measures 1 step-kinds.ps ℕ
-μ-step κs a = 131072 * a .1 .0 + 10 + 4 * (16384 - a .1 .1 .1 .1 .1 .1 .0)
+μ-step κs a = 131072 * a .1 .0 + 10 + 4 * (kidLimit - a .1 .1 .1 .1 .1 .1 .0)
 
 abbrev pub step-at : ℕ → In 1 step-kinds.ps
 step-at t = and 1 step-kinds.ps (is 1 step-kinds.ps μ-step t) step.Pre

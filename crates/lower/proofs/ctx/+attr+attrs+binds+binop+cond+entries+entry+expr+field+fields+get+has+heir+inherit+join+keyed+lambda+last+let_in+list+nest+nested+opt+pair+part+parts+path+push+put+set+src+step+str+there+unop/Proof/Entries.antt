@@ -1,4 +1,4 @@
--- The answers of `entries`. Written by a script from tools/answers_lower_cycle.txt. Assumes nothing.
+-- The answers of `entries`. Written by a script from tools/answers/lower.cycle.txt. Assumes nothing.
 use Prim.Native.Nat.{ℕ}
 use borrow.Author.Needs.{needs}
 use native.Mathlib.Omega.{arith}
@@ -9,6 +9,7 @@ use Rattle.keys.proofs.next_item.Reads as next-item-reads
 use Rattle.lower.proofs.ctx.+attr+attrs+binds+binop+cond+entries+entry+expr+field+fields+get+has+heir+inherit+join+keyed+lambda+last+let_in+list+nest+nested+opt+pair+part+parts+path+push+put+set+src+step+str+there+unop.Lts-entries as lts
 use Rattle.lower.proofs.ctx.+attr+attrs+binds+binop+cond+entries+entry+expr+field+fields+get+has+heir+inherit+join+keyed+lambda+last+let_in+list+nest+nested+opt+pair+part+parts+path+push+put+set+src+step+str+there+unop.Proof.Common.{entries-at, entry-below}
 use Prim.Native.Nat.{_-_}
+use Rattle.layout.specs.Layout.{kidLimit}
 use Rattle.lower.proofs.ReadLaws.{next-of-node, in-end, in-first}
 use Rattle.lower.proofs.Loops.{merging-turn, merging-end}
 use Rattle.lower.proofs.LoopLaws.{EntriesLeft, entries-start}
@@ -20,7 +21,7 @@ abbrev Inv-loop : lts.InvT-loop
 Inv-loop store₀ depth s n i₀ store i = EntriesLeft depth (s .0) (n .0) store₀ i store
 
 abbrev μ-loop : lts.MeasureT-loop
-μ-loop store₀ depth s n i₀ store i = 16384 - i
+μ-loop store₀ depth s n i₀ store i = kidLimit - i
 
 first-entry-requires : (t : ℕ) → lts.Need-first-entry-requires (calls t) (entries-at t) entries.Post Inv-loop μ-loop
 first-entry-requires t c κs = omega (arith, (c .before .before) .pre .1)

@@ -1,4 +1,4 @@
--- The answers of `fields`. Written by a script from tools/answers_lower_cycle.txt. Assumes nothing.
+-- The answers of `fields`. Written by a script from tools/answers/lower.cycle.txt. Assumes nothing.
 use Prim.Native.Nat.{ℕ}
 use borrow.Author.Needs.{needs}
 use native.Mathlib.Omega.{arith}
@@ -9,6 +9,7 @@ use Rattle.lower.proofs.ctx.+attr+attrs+binds+binop+cond+entries+entry+
 use Rattle.lower.proofs.ctx.+attr+attrs+binds+binop+cond+entries+entry+expr+field+fields+get+has+heir+inherit+join+keyed+lambda+last+let_in+list+nest+nested+opt+pair+part+parts+path+push+put+set+src+step+str+there+unop.Proof.Common.{field-below, fields-at}
 use Prim.Native.Nat.{_-_}
 use Rattle.module.specs.Ids.{nodeOf}
+use Rattle.layout.specs.Layout.{kidLimit}
 use Rattle.lower.proofs.ReadLaws.{in-end, in-first}
 use Rattle.lower.proofs.Loops.{gathering-turn, gathering-end}
 use Rattle.lower.proofs.LoopLaws.{FieldsLeft, fields-start}
@@ -20,7 +21,7 @@ abbrev Inv-loop : lts.InvT-loop
 Inv-loop store₀ depth owner i₀ store i = FieldsLeft depth (nodeOf owner) store₀ i store
 
 abbrev μ-loop : lts.MeasureT-loop
-μ-loop store₀ depth owner i₀ store i = 16384 - i
+μ-loop store₀ depth owner i₀ store i = kidLimit - i
 
 loop-holds : (t : ℕ) → lts.Need-loop-holds (calls t) (fields-at t) fields.Post Inv-loop μ-loop
 loop-holds t c = fields-start _ _ _

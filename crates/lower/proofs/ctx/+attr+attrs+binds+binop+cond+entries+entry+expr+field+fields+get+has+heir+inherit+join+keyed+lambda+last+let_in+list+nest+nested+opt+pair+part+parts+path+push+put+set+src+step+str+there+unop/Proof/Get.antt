@@ -1,12 +1,12 @@
--- The answers of `get`. Written by a script from tools/answers_lower_cycle.txt. Assumes nothing.
+-- The answers of `get`. Written by a script from tools/answers/lower.cycle.txt. Assumes nothing.
 use Prim.Native.Nat.{ℕ}
 use borrow.Author.Needs.{needs}
 use native.Mathlib.Omega.{arith}
 use Rattle.store.proofs.alloc_expr.Reads as alloc-expr-reads
 use Rattle.lower.proofs.ctx.attrs.Reads as attrs
+use Rattle.lower.proofs.reads.children_of.Reads as children-of-reads
 use Rattle.lower.proofs.ctx.get.Reads as get
 use Rattle.lower.proofs.ctx.opt.Reads as opt
-use Rattle.lower.proofs.reads.places_of.Reads as places-of-reads
 use Rattle.lower.proofs.ctx.there.Reads as there
 use Rattle.store.proofs.waiting_count.Reads as waiting-count-reads
 use Rattle.lower.proofs.ctx.+attr+attrs+binds+binop+cond+entries+entry+expr+field+fields+get+has+heir+inherit+join+keyed+lambda+last+let_in+list+nest+nested+opt+pair+part+parts+path+push+put+set+src+step+str+there+unop.Lts-get as lts
@@ -15,13 +15,13 @@ use Rattle.lower.proofs.ListedLaws.{select-lowers}
 use Rattle.store.specs.Codes.{ValidExpr}
 
 abbrev pub calls : ℕ → lts.Claims
-calls t = (waiting-count-reads.Asked, waiting-count-reads.Learnt, places-of-reads.Asked, places-of-reads.Learnt, opt-below t, opt.Post, attrs-below t, attrs.Post, there-below t, there.Post, alloc-expr-reads.Asked, alloc-expr-reads.Learnt)
+calls t = (waiting-count-reads.Asked, waiting-count-reads.Learnt, children-of-reads.Asked, children-of-reads.Learnt, opt-below t, opt.Post, attrs-below t, attrs.Post, there-below t, there.Post, alloc-expr-reads.Asked, alloc-expr-reads.Learnt)
 
 waiting-count-requires : (t : ℕ) → lts.Need-waiting-count-requires (calls t) (get-at t) get.Post
 waiting-count-requires t c κs = omega (arith, (c .before .before) .pre .1)
 
-places-of-requires : (t : ℕ) → lts.Need-places-of-requires (calls t) (get-at t) get.Post
-places-of-requires t c κs = omega (arith, (c .before .before .before .before) .pre .1)
+children-of-requires : (t : ℕ) → lts.Need-children-of-requires (calls t) (get-at t) get.Post
+children-of-requires t c κs = omega (arith, (c .before .before .before .before) .pre .1)
 
 opt-requires : (t : ℕ) → lts.Need-opt-requires (calls t) (get-at t) get.Post
 opt-requires t c κs = (omega (arith, (c .before .before .before .before .before .before .before) .pre .0), omega (arith, (c .before .before .before .before .before .before .before) .pre .1))
@@ -40,7 +40,7 @@ same-length : (t : ℕ) → lts.Need-same-length (calls t) (get-at t) get.Post
 same-length t c = search needs
 
 returns : (t : ℕ) → lts.Need-returns (calls t) (get-at t) get.Post
-returns t c = select-lowers _ _ _ _ ((c .before .before .before .before .before .before .before .before .before .before .before .before .before .before .before .before .before .before .before .waiting-count) .ensures) ((c .before .before .before .before .before .before .before .before .before .before .before .before .before .before .before .before .before .places-of) .ensures) _ ((c .before .before .before .before .before .before .before .before .before .before .before .before .before .before .opt) .ensures) ((c .before .before .before .before .before .before .before .before .before .before .attrs) .ensures) _ ((c .before .before .before .before .before .before .there) .ensures) ((c .before .before .alloc-expr) .ensures)
+returns t c = select-lowers _ _ _ _ ((c .before .before .before .before .before .before .before .before .before .before .before .before .before .before .before .before .before .before .before .waiting-count) .ensures) ((c .before .before .before .before .before .before .before .before .before .before .before .before .before .before .before .before .before .children-of) .ensures) _ ((c .before .before .before .before .before .before .before .before .before .before .before .before .before .before .opt) .ensures) ((c .before .before .before .before .before .before .before .before .before .before .attrs) .ensures) _ ((c .before .before .before .before .before .before .there) .ensures) ((c .before .before .alloc-expr) .ensures)
 
 pub done : {M : Type 1} (t : ℕ) → lts.Closed (calls t) (get-at t) get.Post M
-done t = lts.spec (calls t) (get-at t) get.Post (waiting-count-requires t) (places-of-requires t) (opt-requires t) (attrs-requires t) (there-requires t) (alloc-expr-requires t) (same-length t) (returns t)
+done t = lts.spec (calls t) (get-at t) get.Post (waiting-count-requires t) (children-of-requires t) (opt-requires t) (attrs-requires t) (there-requires t) (alloc-expr-requires t) (same-length t) (returns t)

@@ -1,4 +1,4 @@
--- The answers of `heir`. Written by a script from tools/answers_lower_cycle.txt. Assumes nothing.
+-- The answers of `heir`. Written by a script from tools/answers/lower.cycle.txt. Assumes nothing.
 use Prim.Native.Nat.{ℕ}
 use borrow.Author.Needs.{needs}
 use native.Mathlib.Omega.{arith}

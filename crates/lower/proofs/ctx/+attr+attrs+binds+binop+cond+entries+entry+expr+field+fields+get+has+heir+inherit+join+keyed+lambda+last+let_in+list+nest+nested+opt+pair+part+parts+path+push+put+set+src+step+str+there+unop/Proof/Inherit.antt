@@ -1,4 +1,4 @@
--- The answers of `inherit`. Written by a script from tools/answers_lower_cycle.txt. Assumes nothing.
+-- The answers of `inherit`. Written by a script from tools/answers/lower.cycle.txt. Assumes nothing.
 use Prim.Native.Nat.{ℕ}
 use borrow.Author.Needs.{needs}
 use native.Mathlib.Omega.{arith}
@@ -11,6 +11,7 @@ use Rattle.lower.proofs.ctx.+attr+attrs+binds+binop+cond+entries+entry+
 use Rattle.lower.proofs.ctx.+attr+attrs+binds+binop+cond+entries+entry+expr+field+fields+get+has+heir+inherit+join+keyed+lambda+last+let_in+list+nest+nested+opt+pair+part+parts+path+push+put+set+src+step+str+there+unop.Proof.Common.{heir-below, inherit-at, src-below}
 use Prim.Native.Nat.{_-_}
 use Rattle.module.specs.Ids.{exprOf}
+use Rattle.layout.specs.Layout.{kidLimit}
 use Rattle.lower.proofs.ReadLaws.{next-of-node, in-end, in-first}
 use Rattle.lower.proofs.Loops.{merging-turn}
 use Rattle.lower.proofs.LoopLaws.{InheritsLeft, inherits-start, inherits-end}
@@ -22,7 +23,7 @@ abbrev Inv-loop : lts.InvT-loop
 Inv-loop store₀ depth s n from-set i₀ store i = InheritsLeft depth (s .0) (exprOf from-set) (n .0) store₀ i store
 
 abbrev μ-loop : lts.MeasureT-loop
-μ-loop store₀ depth s n from-set i₀ store i = 16384 - i
+μ-loop store₀ depth s n from-set i₀ store i = kidLimit - i
 
 kid-requires : (t : ℕ) → lts.Need-kid-requires (calls t) (inherit-at t) inherit.Post Inv-loop μ-loop
 kid-requires t c κs = omega (arith, (c .before .before) .pre .1)

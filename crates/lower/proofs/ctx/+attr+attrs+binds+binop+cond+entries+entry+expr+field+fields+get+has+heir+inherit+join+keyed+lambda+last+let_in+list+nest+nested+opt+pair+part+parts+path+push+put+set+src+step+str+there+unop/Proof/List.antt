@@ -1,4 +1,4 @@
--- The answers of `list`. Written by a script from tools/answers_lower_cycle.txt. Assumes nothing.
+-- The answers of `list`. Written by a script from tools/answers/lower.cycle.txt. Assumes nothing.
 use Prim.Native.Nat.{ℕ}
 use borrow.Author.Needs.{needs}
 use native.Mathlib.Omega.{arith}
@@ -12,6 +12,7 @@ use Rattle.store.proofs.waiting_count.Reads as waiting-count-reads
 use Rattle.lower.proofs.ctx.+attr+attrs+binds+binop+cond+entries+entry+expr+field+fields+get+has+heir+inherit+join+keyed+lambda+last+let_in+list+nest+nested+opt+pair+part+parts+path+push+put+set+src+step+str+there+unop.Lts-list as lts
 use Rattle.lower.proofs.ctx.+attr+attrs+binds+binop+cond+entries+entry+expr+field+fields+get+has+heir+inherit+join+keyed+lambda+last+let_in+list+nest+nested+opt+pair+part+parts+path+push+put+set+src+step+str+there+unop.Proof.Common.{expr-below, list-at}
 use Prim.Native.Nat.{_-_}
+use Rattle.layout.specs.Layout.{kidLimit}
 use Rattle.store.specs.Codes.{ValidExpr}
 use Rattle.lower.proofs.ReadLaws.{next-of-node, in-end, in-first}
 use Rattle.lower.proofs.LoopLaws.{ListLeft, list-start, list-turn, list-end}
@@ -23,7 +24,7 @@ abbrev Inv-loop : lts.InvT-loop
 Inv-loop store₀ depth n base p i₀ store i = ListLeft depth (n .0) store₀ i store
 
 abbrev μ-loop : lts.MeasureT-loop
-μ-loop store₀ depth n base p i₀ store i = 16384 - i
+μ-loop store₀ depth n base p i₀ store i = kidLimit - i
 
 waiting-count-requires : (t : ℕ) → lts.Need-waiting-count-requires (calls t) (list-at t) list.Post Inv-loop μ-loop
 waiting-count-requires t c κs = omega (arith, (c .before .before) .pre .1)

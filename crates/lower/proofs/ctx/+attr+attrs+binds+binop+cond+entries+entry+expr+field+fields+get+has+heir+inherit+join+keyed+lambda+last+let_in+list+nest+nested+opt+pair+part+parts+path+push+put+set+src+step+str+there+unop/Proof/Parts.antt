@@ -1,4 +1,4 @@
--- The answers of `parts`. Written by a script from tools/answers_lower_cycle.txt. Assumes nothing.
+-- The answers of `parts`. Written by a script from tools/answers/lower.cycle.txt. Assumes nothing.
 use Prim.Native.Nat.{ℕ}
 use borrow.Author.Needs.{needs}
 use native.Mathlib.Omega.{arith}
@@ -8,6 +8,7 @@ use Rattle.lower.proofs.ctx.parts.Reads as parts
 use Rattle.lower.proofs.ctx.+attr+attrs+binds+binop+cond+entries+entry+expr+field+fields+get+has+heir+inherit+join+keyed+lambda+last+let_in+list+nest+nested+opt+pair+part+parts+path+push+put+set+src+step+str+there+unop.Lts-parts as lts
 use Rattle.lower.proofs.ctx.+attr+attrs+binds+binop+cond+entries+entry+expr+field+fields+get+has+heir+inherit+join+keyed+lambda+last+let_in+list+nest+nested+opt+pair+part+parts+path+push+put+set+src+step+str+there+unop.Proof.Common.{part-below, parts-at}
 use Prim.Native.Nat.{_-_}
+use Rattle.layout.specs.Layout.{kidLimit}
 use Rattle.lower.proofs.ReadLaws.{next-of-node, in-end, in-first}
 use Rattle.lower.proofs.Loops.{gathering-turn, gathering-end}
 use Rattle.lower.proofs.LoopLaws.{PartsLeft, parts-start}
@@ -19,7 +20,7 @@ abbrev Inv-loop : lts.InvT-loop
 Inv-loop store₀ depth n i₀ store i = PartsLeft depth (n .0) store₀ i store
 
 abbrev μ-loop : lts.MeasureT-loop
-μ-loop store₀ depth n i₀ store i = 16384 - i
+μ-loop store₀ depth n i₀ store i = kidLimit - i
 
 loop-holds : (t : ℕ) → lts.Need-loop-holds (calls t) (parts-at t) parts.Post Inv-loop μ-loop
 loop-holds t c = parts-start _ _ _

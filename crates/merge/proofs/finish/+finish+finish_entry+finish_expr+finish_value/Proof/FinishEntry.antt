@@ -1,4 +1,4 @@
--- The answers of `finish_entry`. Written by a script from tools/answers_merge_cycle.txt. Assumes nothing.
+-- The answers of `finish_entry`. Written by a script from tools/answers/merge.cycle.txt. Assumes nothing.
 use Prim.Native.Nat.{ℕ}
 use borrow.Author.Needs.{needs}
 use Rattle.merge.proofs.finish.finish_entry.Reads as finish-entry
@@ -7,7 +7,7 @@ use Rattle.store.proofs.push_item.Reads as push-item-reads
 use Rattle.merge.proofs.finish.+finish+finish_entry+finish_expr+finish_value.Lts-finish_entry as lts
 use Rattle.merge.proofs.finish.+finish+finish_entry+finish_expr+finish_value.Proof.Common.{finish-entry-at, finish-value-below}
 use Rattle.store.specs.Codes.{itemWith}
-use Rattle.merging.specs.Entries.{entryWith}
+use Rattle.open_sets.specs.Entries.{entryWith}
 use Rattle.merge.specs.Finishes.{finishEntry, entryLoad}
 use Rattle.merge.proofs.FinishLaws.{static-listed, lone-listed}
 

@@ -1,4 +1,4 @@
--- The answers of `finish_expr`. Written by a script from tools/answers_merge_cycle.txt. Assumes nothing.
+-- The answers of `finish_expr`. Written by a script from tools/answers/merge.cycle.txt. Assumes nothing.
 use Prim.Native.Nat.{ℕ}
 use borrow.Author.Needs.{needs}
 use native.Mathlib.Omega.{arith}
@@ -6,7 +6,7 @@ use Rattle.store.proofs.alloc_expr.Reads as alloc-expr-reads
 use Rattle.store.proofs.alloc_missing.Reads as alloc-missing-reads
 use Rattle.merge.proofs.finish.finish.Reads as finish
 use Rattle.merge.proofs.finish.finish_expr.Reads as finish-expr
-use Rattle.merging.proofs.set_pointer.Reads as set-pointer-reads
+use Rattle.open_sets.proofs.set_pointer.Reads as set-pointer-reads
 use Rattle.store.proofs.waiting_count.Reads as waiting-count-reads
 use Rattle.merge.proofs.finish.+finish+finish_entry+finish_expr+finish_value.Lts-finish_expr as lts
 use Rattle.merge.proofs.finish.+finish+finish_entry+finish_expr+finish_value.Proof.Common.{finish-below, finish-expr-at}

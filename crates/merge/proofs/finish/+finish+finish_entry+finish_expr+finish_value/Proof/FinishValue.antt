@@ -1,4 +1,4 @@
--- The answers of `finish_value`. Written by a script from tools/answers_merge_cycle.txt. Assumes nothing.
+-- The answers of `finish_value`. Written by a script from tools/answers/merge.cycle.txt. Assumes nothing.
 use Prim.Native.Nat.{ℕ}
 use borrow.Author.Needs.{needs}
 use Rattle.store.proofs.alloc_missing.Reads as alloc-missing-reads
@@ -7,7 +7,7 @@ use Rattle.merge.proofs.finish.finish_value.Reads as finish-value
 use Rattle.merge.proofs.finish.+finish+finish_entry+finish_expr+finish_value.Lts-finish_value as lts
 use Rattle.merge.proofs.finish.+finish+finish_entry+finish_expr+finish_value.Proof.Common.{finish-expr-below, finish-value-at}
 use Rattle.module.specs.Ids.{bindingOf}
-use Rattle.merging.specs.Entries.{maybeSetOf, maybeValueOf}
+use Rattle.open_sets.specs.Entries.{maybeSetOf, maybeValueOf}
 use Rattle.merge.proofs.FinishLaws.{nested-wins, value-stays, value-missing}
 
 abbrev pub calls : ℕ → lts.Claims

@@ -1,4 +1,4 @@
--- The answers of `child`. Written by a script from tools/answers_scopes_cycle.txt. Assumes nothing.
+-- The answers of `child`. Written by a script from tools/answers/scopes.cycle.txt. Assumes nothing.
 use Prim.Native.Nat.{ℕ}
 use borrow.Author.Needs.{needs}
 use native.Mathlib.Omega.{arith}

@@ -1,4 +1,4 @@
--- The answers of `walk_items`. Written by a script from tools/answers_scopes_cycle.txt. Assumes nothing.
+-- The answers of `walk_items`. Written by a script from tools/answers/scopes.cycle.txt. Assumes nothing.
 use Prim.Native.Nat.{ℕ}
 use native.Mathlib.Omega.{arith}
 use Rattle.store.proofs.item_count.Reads as item-count-reads

@@ -1,4 +1,4 @@
--- `sheet::position::Position::kids` meets its contract. Written by a script from tools/answers_sheet.txt. Assumes nothing.
+-- `sheet::position::Position::kids` meets its contract. Written by a script from tools/answers/sheet.txt. Assumes nothing.
 use native.Mathlib.Omega.{arith}
 use borrow.Author.Needs.{needs}
 use Rattle.sheet.specs.Keyed.{lineOf, fieldOf}

@@ -1,4 +1,4 @@
--- `sheet::position::Position::kind` meets its contract. Written by a script from tools/answers_sheet.txt. Assumes nothing.
+-- `sheet::position::Position::kind` meets its contract. Written by a script from tools/answers/sheet.txt. Assumes nothing.
 use borrow.Author.Needs.{needs}
 use Rattle.sheet.proofs.NodeLaws.{kind-root, kind-other}
 use Rattle.sheet.proofs.position.Position.kind.Statement.{statement}

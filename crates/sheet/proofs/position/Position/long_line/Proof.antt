@@ -1,4 +1,4 @@
--- `sheet::position::Position::long_line` meets its contract. Written by a script from tools/answers_sheet.txt. Assumes nothing.
+-- `sheet::position::Position::long_line` meets its contract. Written by a script from tools/answers/sheet.txt. Assumes nothing.
 use borrow.Author.Tests.{not-true, not-false}
 use borrow.Author.Needs.{needs}
 use Rattle.sheet.proofs.LineLaws.{line-other, key-inside, line-value, line-endless}

@@ -1,4 +1,4 @@
--- `sheet::position::Position::node` meets its contract. Written by a script from tools/answers_sheet.txt. Assumes nothing.
+-- `sheet::position::Position::node` meets its contract. Written by a script from tools/answers/sheet.txt. Assumes nothing.
 use borrow.Author.Needs.{needs}
 use Rattle.sheet.proofs.NodeLaws.{number-inside, kind-inside, node-kind, node-from, node-to, node-rest}
 use Rattle.sheet.proofs.position.Position.node.Statement.{statement}

@@ -1,4 +1,4 @@
--- `sheet::position::Position::nodes` meets its contract. Written by a script from tools/answers_sheet.txt. Assumes nothing.
+-- `sheet::position::Position::nodes` meets its contract. Written by a script from tools/answers/sheet.txt. Assumes nothing.
 use Prim.Native.Nat.{_-_}
 use borrow.Author.Needs.{needs}
 use Rattle.sheet.proofs.SheetLaws.{Reading, reading-start, reading-end, reading-bad, reading-more}

@@ -1,4 +1,4 @@
--- `sheet::position::Position::number` meets its contract. Written by a script from tools/answers_sheet.txt. Assumes nothing.
+-- `sheet::position::Position::number` meets its contract. Written by a script from tools/answers/sheet.txt. Assumes nothing.
 use native.Mathlib.Omega.{arith}
 use borrow.Author.Needs.{needs}
 use Rattle.sheet.proofs.NumberLaws.{number-other, number-malformed, number-low, number-right, number-high}

@@ -1,4 +1,4 @@
--- The measures of the cycle, what each member is given at the measure t, and what a call of it asks below t. Written by a script from tools/answers_tree_cycle.txt. Assumes nothing.
+-- The measures of the cycle, what each member is given at the measure t, and what a call of it asks below t. Written by a script from tools/answers/tree.cycle.txt. Assumes nothing.
 use Prim.Native.Nat.{ℕ, _<_}
 use borrow.Fn.Kinds.{In}
 use borrow.Fn.PlainCycle.{Measures, is, falls, and}

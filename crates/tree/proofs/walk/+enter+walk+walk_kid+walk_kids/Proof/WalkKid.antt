@@ -1,4 +1,4 @@
--- The answers of `walk_kid`. Written by a script from tools/answers_tree_cycle.txt. Assumes nothing.
+-- The answers of `walk_kid`. Written by a script from tools/answers/tree.cycle.txt. Assumes nothing.
 use Prim.Native.Nat.{ℕ}
 use borrow.Author.Needs.{needs}
 use native.Mathlib.Omega.{arith}

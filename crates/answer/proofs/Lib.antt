@@ -1,0 +1,3 @@
+pub mod WordLaws
+pub mod ToldLaws
+pub mod MeantLaws

@@ -1,0 +1,4 @@
+-- Laws of tests, of lists and of sums over them.
+pub mod BoolLaws
+pub mod ListLaws
+pub mod Sums

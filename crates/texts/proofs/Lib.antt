@@ -1,0 +1,4 @@
+pub mod HeldLaws
+pub mod FitLaws
+pub mod ReadLaws
+pub mod AddLaws
