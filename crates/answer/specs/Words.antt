@@ -1,4 +1,5 @@
--- The word that stands for an answer in a store: 0 none, 1 the Withs around it, 2 to 23 a built-in name, from 24 on a name.
+-- The word that stands for an answer in a store: 0 none, 1 the Withs around it, 2 to 23 a built-in name, from 24 on a
+-- name.
 use Prim.Native.Nat.{ℕ, _+_, _-_}
 use lib.Dec.{eqb, ltb}
 use Rattle.spec.specs.Basics.{if_then_else_}

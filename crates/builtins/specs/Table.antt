@@ -1,4 +1,5 @@
--- The table of the code: a row of bytes for each built-in name, and how many of them are the name. It says what the definitions say, and no name twice.
+-- The table of the code: a row of bytes for each built-in name, and how many of them are the name. It says what the
+-- definitions say, and no name twice.
 use mathlib.Core.Path.{_≡_, refl}
 use mathlib.Core.Bool.{Bool, true, false, _||_, _&&_, not}
 use mathlib.Core.List.{List, [], _∷_}

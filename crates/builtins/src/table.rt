@@ -1,4 +1,5 @@
-// GLOBAL_BUILTIN_NAMES as rows of bytes, in their order. A name is the first bytes of its row, as many as its length says.
+// GLOBAL_BUILTIN_NAMES as rows of bytes, in their order. A name is the first bytes of its row, as many as its length
+// says.
 ghost use mathlib.Core.Path.{_≡_};
 ghost use mathlib.Core.List.{[]};
 ghost use Prim.Native.Nat.{_<_};
@@ -55,7 +56,8 @@ const LENGTHS: [u8; 22] = [
     4,
 ];
 
-// Where each name begins: seldom has another text the same length and the same first byte, so that a row is seldom read in vain.
+// Where each name begins: seldom has another text the same length and the same first byte, so that a row is seldom read
+// in vain.
 const FIRSTS: [u8; 22] = *b"abbddfffffffiimnprsttt";
 
 pub fn length_at(i: usize) -> u8

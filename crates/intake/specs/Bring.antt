@@ -96,7 +96,8 @@ pub record Settled (t : List ℕ) (kids texts k : ℕ) : Type 0 where
   pub kids-end : word t (nodesAt + nodeRow * (k + 1)) ≤ kids
   pub text-end : word t (nodesAt + nodeRow * k + 20) + 4 + word t (textsAt + word t (nodesAt + nodeRow * k + 20)) ≤ texts
 
--- so many rows are written, and the next one's kids and text will begin at these places; meanwhile all bytes that the texts may take are in use
+-- so many rows are written, and the next one's kids and text will begin at these places; meanwhile all bytes that the
+-- texts may take are in use
 pub record Rows (t : List ℕ) (i kids texts : ℕ) : Type 0 where
   pub in-use : word t textsPlace ≡ sheetTextLimit
   pub here : word t (nodesAt + nodeRow * i) ≡ kids
@@ -188,7 +189,8 @@ abbrev pub AllBrought : List ℕ → ℕ → List ℕ → List ℕ → Room → 
 AllBrought s count t u (room.Upto texts) = AllIn s count texts t u
 AllBrought s count t u room.Full = Stopped s t u
 
--- the store says the nodes; the bytes of texts in use are those of their texts, each with its length, and every one lies within them
+-- the store says the nodes; the bytes of texts in use are those of their texts, each with its length, and every one
+-- lies within them
 pub record Holds (ns : List Node) (t : List ℕ) (r : Bool) : Type 0 where
   pub told : r ≡ true
   pub nodes : nodesOf t ≡ ns
@@ -196,7 +198,8 @@ pub record Holds (ns : List Node) (t : List ℕ) (r : Bool) : Type 0 where
   pub texts : word t textsPlace ≤ sheetTextLimit
   pub fits : (n : ℕ) → n < length ns → word t (nodesAt + nodeRow * n + 20) + 4 + word t (textsAt + word t (nodesAt + nodeRow * n + 20)) ≤ word t textsPlace
 
--- What bringing a sheet's nodes in does to a store, whatever the sheet; and that it brings all of them in, where the sheet is accepted and there is room for the kids.
+-- What bringing a sheet's nodes in does to a store, whatever the sheet; and that it brings all of them in, where the
+-- sheet is accepted and there is room for the kids.
 pub record Brought (s t u : List ℕ) (r : Bool) : Type 0 where
   pub wrote : Wrote bringing t u
   pub past : drop storeBytes u ≡ drop storeBytes t

@@ -1,4 +1,5 @@
--- What a write leaves as it was of the whole module, of scopes, of kept answers and of kept references: if it lies outside what they are read from. Assumes nothing.
+-- What a write leaves as it was of the whole module, of scopes, of kept answers and of kept references: if it lies
+-- outside what they are read from. Assumes nothing.
 use mathlib.Core.Path.{_≡_, refl, sym, ap, _∙_}
 use mathlib.Core.Bool.{Bool, true, false, _&&_, _||_, and-eq-true-iff, or-true}
 use mathlib.Core.List.{List, [], _∷_}

@@ -1,4 +1,5 @@
--- Adding a text leaves all that a sound store keeps as it was: every number of a text there is one that fits. Assumes nothing.
+-- Adding a text leaves all that a sound store keeps as it was: every number of a text there is one that fits. Assumes
+-- nothing.
 use mathlib.Core.Path.{_≡_, refl, sym, ap, _∙_}
 use mathlib.Core.Logic.{inr}
 use mathlib.Core.Bool.{Bool, true, false, _&&_, and-eq-true-iff}

@@ -40,7 +40,8 @@ keepAnswer e a k =
     if eqb (answerWord a) absent then k
     else record { lowered = k .lowered; scopes = k .scopes; answers = set (k .answers) e (answeredNow k e a); references = k .references; spent = k .spent }
 
--- The answer a of the expression e is kept, as its word, and nothing else is another. An expression that is no Reference has the word too.
+-- The answer a of the expression e is kept, as its word, and nothing else is another. An expression that is no
+-- Reference has the word too.
 pub record Answered (e : ExprId) (a : Answer) (s t : List ℕ) : Type 0 where
   pub wrote : Wrote ((usesAt + useRow * e + 4, usesAt + useRow * e + 8) ∷ []) s t
   pub still : Still s t

@@ -27,7 +27,8 @@ listsTo s x = rowsTo (referencesOf s) x
 unfoldable pub waitingFor : List ℕ → NameId → ℕ → List ExprId
 waitingFor s x n = rowsTo (λ k. word s (referencesAt + 4 * (firstReference s x + k))) n
 
--- The lists of the names before x lie one after the other from the first reference on, they end where those of x begin, and they fit.
+-- The lists of the names before x lie one after the other from the first reference on, they end where those of x begin,
+-- and they fit.
 pub record Listed (x : NameId) (s : List ℕ) : Type 0 where
   pub begins : firstReference s 0 ≡ 0
   pub rises : (y : NameId) → y < x → firstReference s y ≤ firstReference s (y + 1)

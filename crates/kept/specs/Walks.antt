@@ -1,4 +1,5 @@
--- Walking in a store: what is read of a scope, the steps that open scopes and place expressions, and what each did to the bytes.
+-- Walking in a store: what is read of a scope, the steps that open scopes and place expressions, and what each did to
+-- the bytes.
 use mathlib.Core.Path.{_≡_}
 use mathlib.Core.Bool.{Bool, _&&_}
 use mathlib.Core.List.{List, [], _∷_, _++_}
@@ -68,15 +69,16 @@ usedNames s = firstEntered s (cap (word s scopeCount) scopeLimit)
 unfoldable pub waitingNames : List ℕ → ℕ → List NameId
 waitingNames s n = rowsTo (λ k. word s (enteredAt + 4 * (usedNames s + k))) n
 
--- The scopes are what decoding takes them for. Their names lie one after the other from 0 on, each scope's right after those of the scope ahead of it, and all that are
--- entered fit; a scope for a With has none.
+-- The scopes are what decoding takes them for. Their names lie one after the other from 0 on, each scope's right after
+-- those of the scope ahead of it, and all that are entered fit; a scope for a With has none.
 pub record Neat (s : List ℕ) : Type 0 where
   pub counted : word s scopeCount ≤ scopeLimit
   pub begins : firstEntered s 0 ≡ 0
   pub follows : (i : ScopeId) → i < word s scopeCount → firstEntered s (i + 1) ≡ firstEntered s i + length (namesEntered (scopeIn s i .kind))
   pub few : usedNames s ≤ nameLimit
 
--- From the store s the step gave r and left the store t; the module, the kept references, the nodes and the texts are as they were.
+-- From the store s the step gave r and left the store t; the module, the kept references, the nodes and the texts are
+-- as they were.
 pub record Walked {A : Type 0} (p : Walk A) (s : List ℕ) (r : A) (t : List ℕ) : Type 0 where
   pub wrote : Wrote walking s t
   pub still : Still s t

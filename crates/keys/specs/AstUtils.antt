@@ -29,6 +29,7 @@ identName nodes n = if eqb (flag nodes n) 1 then some (text nodes n) else none
 abbrev pub setKind : List Node → NodeId → NameKind
 setKind nodes n = if eqb (flag nodes n) 1 then RecAttrset else PlainAttrset
 
--- Whether an item of a node is an interpolation. The definition stands among those that lower, and asks nothing of them.
+-- Whether an item of a node is an interpolation. The definition stands among those that lower, and asks nothing of
+-- them.
 pub record Interpolated (nodes : List Node) (n : NodeId) (r : Bool) : Type 0 where
   pub says : (lower : NodeId → Low ExprId) (merge : SetId → NodeId → Low (Unit {0})) → r ≡ hasInterpolation nodes lower merge (items nodes n)

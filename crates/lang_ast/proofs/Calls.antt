@@ -41,8 +41,8 @@ use Rattle.lang_ast.proofs.lang_ast_change_name.Reads as change_name
 abbrev pub Bytes : Type 0
 Bytes = RefT (List ℕ)
 
--- The parameters of the calls in their order, as nested pairs that end in `tt`: the sheet, the store and the reply of a load; the store, a number, the buffer
--- or the text, and the reply of the others.
+-- The parameters of the calls in their order, as nested pairs that end in `tt`: the sheet, the store and the reply of a
+-- load; the store, a number, the buffer or the text, and the reply of the others.
 abbrev pub LoadArgs : Type 0
 LoadArgs = Bytes × (Bytes × (Bytes × Unit {0}))
 
@@ -82,8 +82,9 @@ pub change-name-free : (κs : Lfts 3) (a : Args) → change_name.Asked κs a
 change-name-free κs a = tt
 
 -- ---- lists of calls
--- Trace s u: calls one after the other, from a store of the bytes s to a store of the bytes u, each with its own arguments as lent. "Each call gets the store as
--- the last one left it, and nobody else writes it meanwhile." What is known of a call is its `ensures`, and no more.
+-- Trace s u: calls one after the other, from a store of the bytes s to a store of the bytes u, each with its own
+-- arguments as lent. "Each call gets the store as the last one left it, and nobody else writes it meanwhile." What is
+-- known of a call is its `ensures`, and no more.
 pub data Trace : List ℕ → List ℕ → Type 0 where
   done : (s : List ℕ) → Trace s s
   asked-reference : (κs : Lfts 3) (a : Args) (w : Lasts AskReferenceEnd κs a) (r : ℕ) (u : List ℕ)
@@ -115,7 +116,8 @@ AskingTurn b c a r z = Asking b c (a .0 .now) (z .0 .now) r (a .1 .1 .0 .now) (a
 abbrev ChangingTurn : Book → Call → Args → ℕ → Args → Type 0
 ChangingTurn b c a r z = Turn b c (a .0 .now) (z .0 .now) r (a .1 .1 .1 .0 .now) (z .1 .1 .1 .0 .now)
 
--- What holds of every call of a trace, at its turn; b is the book before the first, and what the store keeps after the last is the book's too.
+-- What holds of every call of a trace, at its turn; b is the book before the first, and what the store keeps after the
+-- last is the book's too.
 unfoldable pub Follows : (s u : List ℕ) → Trace s u → Book → Type 0
 Follows s u (done s′) b = KeepsBook b s′
 Follows s u (asked-reference κs a w r u′ here more) b =
@@ -161,7 +163,8 @@ module _ (κs : Lfts 3) (a : Args) (r : ℕ) where
       let z = atExit ChangeNameEnd κs a w in
       changing-turn (changingName a) (a .0 .now) (z .0 .now) r (a .1 .1 .1 .0 .now) (z .1 .1 .1 .0 .now) (record { number = here .0; reply = here .1 .0; leaves = here .1 .1 })
 
--- THEOREM. So it is of every list of calls from a store to go on from, whoever made it, and the book is the one that it keeps.
+-- THEOREM. So it is of every list of calls from a store to go on from, whoever made it, and the book is the one that it
+-- keeps.
 pub follows : (s u : List ℕ) (t : Trace s u) → Ready s → Follows s u t (asBook (keptIn s))
 unfolding Follows
 follows s u (done s′) ready = record { texts = refl; scopes = refl; answers = ready .fresh .answers; references = ready .fresh .references; room = refl; sound = ready .sound }
@@ -189,7 +192,8 @@ pub record Holds (sheet s u : List ℕ) (t : Trace s u) : Type 0 where
   pub begins : KeepsBook (bookOf (lowerModule nodes)) s
   pub follows : Follows s u t (bookOf (lowerModule nodes))
 
--- THEOREM, demand 3. For every call of the load that was accepted, and every list of the other calls from the store as it left it.
+-- THEOREM, demand 3. For every call of the load that was accepted, and every list of the other calls from the store as
+-- it left it.
 pub demand3 : (κs : Lfts 3) (a : LoadArgs) (w : Lasts LoadEnd κs a) → load.Post κs a 0 (atExit LoadEnd κs a w)
     → (u : List ℕ) (t : Trace (atExit LoadEnd κs a w .1 .0 .now) u) → Holds (a .0 .now) (atExit LoadEnd κs a w .1 .0 .now) u t
 demand3 κs a w here u t =
@@ -203,7 +207,8 @@ demand3 κs a w here u t =
     }
 
 -- ---- what a reader asks next
--- THEOREM. A load that is refused leaves the store as it was, byte for byte; so what an earlier load left answers as before.
+-- THEOREM. A load that is refused leaves the store as it was, byte for byte; so what an earlier load left answers as
+-- before.
 pub refused-load : (κs : Lfts 3) (a : LoadArgs) (w : Lasts LoadEnd κs a) (n : ℕ) → load.Post κs a (suc n) (atExit LoadEnd κs a w) → atExit LoadEnd κs a w .1 .0 .now ≡ a .1 .0 .now
 refused-load κs a w n here = refused-leaves (a .0 .now) (a .1 .0 .now) (a .1 .1 .0 .now) (atExit LoadEnd κs a w .1 .0 .now) n (here .0) (here .1 .1)
 
@@ -278,7 +283,8 @@ start-of sheet s l =
     let start : Start (l .a .0 .now) (z .1 .0 .now) = accepted-starts (l .a .0 .now) (l .a .1 .0 .now) (l .a .1 .1 .0 .now) (z .1 .0 .now) (l .here .0) (l .here .1 .1) in
     subst (λ (x : List ℕ). Start sheet x) (l .left) (subst (λ (x : List ℕ). Start x (z .1 .0 .now)) (l .read) start)
 
--- THEOREM. The same calls on two stores that accepted loads of the same sheet left come to the same, and return the same numbers.
+-- THEOREM. The same calls on two stores that accepted loads of the same sheet left come to the same, and return the
+-- same numbers.
 pub same-outcomes : (sheet s s′ u u′ : List ℕ) → LoadedFrom sheet s → LoadedFrom sheet s′ → (t : Trace s u) (t′ : Trace s′ u′) → callsOf s u t ≡ callsOf s′ u′ t′
     → (outcomesOf s u t ≡ outcomesOf s′ u′ t′) × (numbersOf s u t ≡ numbersOf s′ u′ t′)
 same-outcomes sheet s s′ u u′ l l′ t t′ e =
@@ -293,7 +299,8 @@ same-outcomes sheet s s′ u u′ l l′ t t′ e =
     nodesOf (Judged.accepted ns) = ns
     nodesOf (Judged.refused number place) = []
 
--- ---- A trace that is there, and meets the contracts by computing: a store without a byte is too short for any call, and a reply of twenty bytes is told so.
+-- ---- A trace that is there, and meets the contracts by computing: a store without a byte is too short for any call,
+-- and a reply of twenty bytes is told so.
 lent : List ℕ → Bytes
 lent l = record { ptr = (0, 0); name = 0; now = l }
 

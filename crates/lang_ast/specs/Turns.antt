@@ -15,7 +15,8 @@ use Rattle.replies.specs.Replies.{returned, replyAfter, bufferAfter}
 abbrev pub KeepsBook : Book → List ℕ → Type 0
 KeepsBook b s = demand.KeepsBook (List ℕ) keptIn conditionOf b s
 
--- What holds of a call at its turn, b being the book before it: it found the store s and left the store t, returned r, and the reply p is p′ now.
+-- What holds of a call at its turn, b being the book before it: it found the store s and left the store t, returned r,
+-- and the reply p is p′ now.
 pub record Turn (b : Book) (c : Call) (s t : List ℕ) (r : ℕ) (p p′ : List ℕ) : Type 0 where
   -- "Each call's refusal, place, answer, length and list .. are the book's"
   pub number : r ≡ returned (bookOutcome b c)

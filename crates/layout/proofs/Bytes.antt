@@ -1,4 +1,5 @@
--- What a write leaves of the bytes: `Wrote` speaks of words, and the words that are as they were have the bytes that they had. Assumes nothing.
+-- What a write leaves of the bytes: `Wrote` speaks of words, and the words that are as they were have the bytes that
+-- they had. Assumes nothing.
 use mathlib.Core.Path.{_≡_, refl, sym, ap, _∙_}
 use mathlib.Core.Logic.{_⊎_, inl, inr, ⊎-elim}
 use mathlib.Core.Bool.{Bool, true, _&&_, and-eq-true-iff}

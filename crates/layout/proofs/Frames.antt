@@ -1,4 +1,5 @@
--- What a write leaves as it was: a part of the decoding, if the write lies outside the ranges that the part is read from. Assumes nothing.
+-- What a write leaves as it was: a part of the decoding, if the write lies outside the ranges that the part is read
+-- from. Assumes nothing.
 use mathlib.Core.Path.{_≡_, refl, ap, _∙_}
 use mathlib.Core.Logic.{_⊎_, inl, inr, ⊎-elim}
 use mathlib.Core.Bool.{Bool, true, false, _&&_, _||_, and-eq-true-iff}

@@ -1,5 +1,5 @@
--- The layout of a store (docs/STORE.md) in numbers, for the specs and the proofs; src/tables.rt has them for the code, and nobody else does. A number is
--- a word of four bytes; offsets and lengths are in bytes, limits in rows.
+-- The layout of a store (docs/STORE.md) in numbers, for the specs and the proofs; src/tables.rt has them for the code,
+-- and nobody else does. A number is a word of four bytes; offsets and lengths are in bytes, limits in rows.
 use Prim.Native.Nat.{ℕ, _+_, _-_, _*_, _≤_}
 use mathlib.Core.List.{List}
 use lib.ListN.{length}

@@ -1,4 +1,5 @@
--- Which bytes of a store the steps above this layer may write. The ranges are named here, so that no contract above mentions an offset.
+-- Which bytes of a store the steps above this layer may write. The ranges are named here, so that no contract above
+-- mentions an offset.
 use Prim.Native.Nat.{_+_}
 use mathlib.Core.List.{List, [], _∷_}
 use Rattle.layout.specs.Layout.{exprCount, scopeCount, spentPlace, textsPlace, waitingCount, entryCount, exprsAt, exprPointersAt, namesAt, namePointersAt, usesAt, scopesAt, firstsAt, waitingAt, setsAt, sheetAt, textsAt, storeBytes}
@@ -24,11 +25,12 @@ resolving = (usesAt, scopesAt) ∷ (firstsAt, setsAt) ∷ []
 abbrev pub spending : List Range
 spending = (spentPlace, spentPlace + 4) ∷ []
 
--- a change of a text: the room spent and the bytes of texts in use; expressions; texts of names; answers; kept references and the room where they are
--- listed; texts
+-- a change of a text: the room spent and the bytes of texts in use; expressions; texts of names; answers; kept
+-- references and the room where they are listed; texts
 unfoldable pub changing : List Range
 changing = (spentPlace, textsPlace + 4) ∷ (exprsAt, exprPointersAt) ∷ (namesAt, namePointersAt) ∷ (usesAt, scopesAt) ∷ (firstsAt, setsAt) ∷ (textsAt, storeBytes) ∷ []
 
--- all that is kept of a module: the count of scopes and the room spent; scopes, names entered, answers, kept references and the room where they are listed
+-- all that is kept of a module: the count of scopes and the room spent; scopes, names entered, answers, kept references
+-- and the room where they are listed
 unfoldable pub keeping : List Range
 keeping = (scopeCount, textsPlace) ∷ (usesAt, setsAt) ∷ []

@@ -1,5 +1,5 @@
--- What the bytes of a store say of a module, and of the work of lowering it. Counts are taken as at most their limits and rows read whatever they hold, so that
--- every list of bytes says something.
+-- What the bytes of a store say of a module, and of the work of lowering it. Counts are taken as at most their limits
+-- and rows read whatever they hold, so that every list of bytes says something.
 use mathlib.Core.List.{List, [], _∷_}
 use mathlib.Core.Option.{Option, none, some}
 use Prim.Native.Nat.{ℕ, _+_, _*_}

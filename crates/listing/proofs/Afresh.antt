@@ -1,4 +1,5 @@
--- Listed anew from answers that are those worked out afresh, the kept references are those worked out afresh. Assumes nothing.
+-- Listed anew from answers that are those worked out afresh, the kept references are those worked out afresh. Assumes
+-- nothing.
 use mathlib.Core.Path.{_≡_, sym}
 use mathlib.Core.List.{List}
 use Prim.Native.Nat.{ℕ}
@@ -17,7 +18,8 @@ pub references-listed : (m : Module) (w : Scopes) → referencesAfresh m w ≡ t
 unfolding referencesAfresh
 references-listed m w = tabulate-same (references m w) (λ x. answeredWith x 0 (answersAfresh m w)) (references-are m w) 0 (m .names)
 
--- THEOREM. A store whose kept answers are those worked out afresh has kept references that are so too, once they are listed anew.
+-- THEOREM. A store whose kept answers are those worked out afresh has kept references that are so too, once they are
+-- listed anew.
 pub listed-afresh : (s t : List ℕ) → Lists s t → keptIn s .answers ≡ answersAfresh (keptIn s .lowered) (keptIn s .scopes) → Afresh (keptIn t)
 unfolding withReferences
 listed-afresh s t d e =

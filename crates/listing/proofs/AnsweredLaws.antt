@@ -1,5 +1,5 @@
--- The expressions that are answered with a name: from which number on they are, what one expression more adds, and that an expression is in one list at most.
--- Assumes nothing.
+-- The expressions that are answered with a name: from which number on they are, what one expression more adds, and that
+-- an expression is in one list at most. Assumes nothing.
 use mathlib.Core.Path.{_≡_, refl, sym, _∙_}
 use mathlib.Core.Bool.{Bool, true, false}
 use mathlib.Core.List.{List, [], _∷_}

@@ -1,4 +1,5 @@
--- References linked in the work room: what stays linked, and what clearing, linking one expression and linking all of them do. Assumes nothing.
+-- References linked in the work room: what stays linked, and what clearing, linking one expression and linking all of
+-- them do. Assumes nothing.
 use mathlib.Core.Path.{_≡_, refl, _∙_}
 use mathlib.Core.Logic.{_⊎_, inl, inr}
 use mathlib.Core.Bool.{Bool, true, false}

@@ -1,4 +1,5 @@
--- References linked in the work room: of every name where its list begins, of every expression which comes after it, each one too high with 0 for the end.
+-- References linked in the work room: of every name where its list begins, of every expression which comes after it,
+-- each one too high with 0 for the end.
 use mathlib.Core.Path.{_≡_}
 use mathlib.Core.List.{List, [], _∷_}
 use Prim.Native.Nat.{ℕ, _+_, _*_, _<_}

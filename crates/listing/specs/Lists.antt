@@ -17,8 +17,8 @@ use Rattle.listing.specs.Links.{headOf, Chained, answeredFrom}
 unfoldable pub relisting : List Range
 relisting = (firstsAt, waitingAt) ∷ (nextsAt, setsAt) ∷ []
 
--- The kept references are those that the kept answers say, and nothing else that is kept is another. Their lists lie one after the other, and what they list
--- are expressions in use.
+-- The kept references are those that the kept answers say, and nothing else that is kept is another. Their lists lie
+-- one after the other, and what they list are expressions in use.
 pub record Lists (s t : List ℕ) : Type 0 where
   pub wrote : Wrote relisting s t
   pub still : Still s t

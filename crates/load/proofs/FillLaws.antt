@@ -1,4 +1,5 @@
--- A store that was emptied, given the nodes of an accepted sheet, lowered and resolved keeps what the definition of a load says. Assumes nothing.
+-- A store that was emptied, given the nodes of an accepted sheet, lowered and resolved keeps what the definition of a
+-- load says. Assumes nothing.
 use mathlib.Core.Path.{_≡_, refl, sym, ap, _∙_}
 use mathlib.Core.Bool.{Bool}
 use mathlib.Core.List.{List}

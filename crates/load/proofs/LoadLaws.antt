@@ -1,4 +1,5 @@
--- The four ways of a load: the reply or the store is too short, the sheet is refused, or the store is filled. Assumes nothing.
+-- The four ways of a load: the reply or the store is too short, the sheet is refused, or the store is filled. Assumes
+-- nothing.
 use mathlib.Core.Path.{_≡_, refl, sym, _∙_}
 use mathlib.Core.Bool.{or-true}
 use mathlib.Core.List.{List}

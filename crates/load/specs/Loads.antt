@@ -10,8 +10,8 @@ use Rattle.layout.specs.Layout.{storeBytes}
 use Rattle.layout.specs.Keeps.{keptIn}
 use Rattle.soundness.specs.Sound.{conditionOf}
 
--- An accepted sheet's nodes are loaded: all that is kept is the definition's, and no call finds the store unsound or empty. Bytes that decoding and the check of
--- soundness do not read are free, and so are the numbers that texts get.
+-- An accepted sheet's nodes are loaded: all that is kept is the definition's, and no call finds the store unsound or
+-- empty. Bytes that decoding and the check of soundness do not read are free, and so are the numbers that texts get.
 pub record Loaded (nodes : List Node) (s t : List ℕ) : Type 0 where
   pub kept : keptIn t ≡ loaded nodes
   pub sound : conditionOf t ≡ fit

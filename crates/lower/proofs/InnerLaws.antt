@@ -1,4 +1,5 @@
--- A set of its own: it is opened, merged into, finished and cut off again, and the sets around it are as they were. Assumes nothing.
+-- A set of its own: it is opened, merged into, finished and cut off again, and the sets around it are as they were.
+-- Assumes nothing.
 use mathlib.Core.Path.{_≡_, refl, sym, ap, _∙_}
 use mathlib.Core.Bool.{true}
 use mathlib.Core.List.{List, [], _∷_, _++_}

@@ -25,7 +25,8 @@ lowerAt depth nodes = λ m. lowerExpr nodes depth m
 abbrev pub mergeAt : ℕ → List Node → SetId → NodeId → Low (Unit {0})
 mergeAt depth nodes = λ s m. mergeBindings nodes depth s m
 
--- Lowering a node: in all for its own node and those below it, or, what is less for a Str, for those below it and one expression.
+-- Lowering a node: in all for its own node and those below it, or, what is less for a Str, for those below it and one
+-- expression.
 pub record LowersNode (depth : ℕ) (n : NodeId) (s : List ℕ) (r : ExprId) (t : List ℕ) : Type 0 where
   pub whole : Lowering 0 (below n) ownNode (λ nodes. lowerExpr nodes depth n) s r t
   pub tight : Lowering 0 (heft (some n)) oneExpr (λ nodes. lowerExpr nodes depth n) s r t

@@ -62,7 +62,8 @@ unfoldable pub attrsFrom : List Node → ℕ → Option NodeId → List NodeId
 attrsFrom nodes i none = []
 attrsFrom nodes i (some n) = itemsFrom nodes i n
 
--- From place i on, k is the first, and the others follow from place j on; no node has more kids than the store has room for.
+-- From place i on, k is the first, and the others follow from place j on; no node has more kids than the store has room
+-- for.
 pub record FirstIn (nodes : List Node) (i : ℕ) (place : Option NodeId) (k : NodeId) (j : ℕ) : Type 0 where
   pub items : attrsFrom nodes i place ≡ k ∷ attrsFrom nodes j place
   pub onward : i < j

@@ -25,7 +25,8 @@ unfoldable pub place : List Node → Option NodeId → ℕ
 place nodes none = 0
 place nodes (some n) = sized nodes n
 
--- What lowering takes beside one expression: a Str takes only one expression for its own node, so that it may also be a key.
+-- What lowering takes beside one expression: a Str takes only one expression for its own node, so that it may also be a
+-- key.
 unfoldable pub heft : Option NodeId → List Node → ℕ
 heft none nodes = 0
 heft (some n) nodes = if eqb (kind nodes n) 6 then below n nodes else sized nodes n

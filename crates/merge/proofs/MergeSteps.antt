@@ -1,4 +1,5 @@
--- How the steps inside the merging of one key follow one another, and how the whole is a step of lowering. Assumes nothing.
+-- How the steps inside the merging of one key follow one another, and how the whole is a step of lowering. Assumes
+-- nothing.
 use mathlib.Core.Path.{_≡_, refl, ap, _∙_}
 use mathlib.Core.Bool.{true}
 use mathlib.Core.List.{List}

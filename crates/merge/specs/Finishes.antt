@@ -1,4 +1,5 @@
--- When a step of the code finishes sets as the definitions do: it allocates expressions and items, and leaves the open sets as they were.
+-- When a step of the code finishes sets as the definitions do: it allocates expressions and items, and leaves the open
+-- sets as they were.
 use mathlib.Core.Path.{_≡_}
 use mathlib.Core.List.{List, [], _∷_, _++_, map}
 use mathlib.Core.Option.{Option, none, some}

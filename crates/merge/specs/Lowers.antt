@@ -30,7 +30,8 @@ pub record Lowerable (s : List ℕ) : Type 0 where
 pub record Floats (nodes : List Node) : Type 0 where
   pub held : (n : NodeId) → eqb (kind nodes n) 8 ≡ true → flag nodes n ≡ 1 → bitsFrom 0 (text nodes n) ≤ 9218868437227405312
 
--- Where a step begins: with the nodes of an accepted sheet, with items that wait, with at least `top` open sets, and with room for m nodes and for its own price.
+-- Where a step begins: with the nodes of an accepted sheet, with items that wait, with at least `top` open sets, and
+-- with room for m nodes and for its own price.
 pub record Setting (nodes : List Node) (w : List Item) (top m : ℕ) (own : Price) (s : List ℕ) : Type 0 where
   pub weighs : Weighs nodes
   pub floats : Floats nodes

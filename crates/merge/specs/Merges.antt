@@ -1,4 +1,5 @@
--- A step inside the merging of one key. Nothing is said of the forest of sets, which is one again when the key is merged.
+-- A step inside the merging of one key. Nothing is said of the forest of sets, which is one again when the key is
+-- merged.
 use mathlib.Core.Path.{_≡_}
 use mathlib.Core.List.{List}
 use mathlib.Core.Option.{Option}

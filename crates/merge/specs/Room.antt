@@ -9,7 +9,8 @@ use Rattle.store.specs.Work.{Work}
 pub data Resource : Type 0 where
   exprs items names diagnostics sets entries : Resource
 
--- How much is in use. A set that is open and each of its entries will be an expression and an item when the set is finished, and are counted as such from the beginning.
+-- How much is in use. A set that is open and each of its entries will be an expression and an item when the set is
+-- finished, and are counted as such from the beginning.
 unfoldable pub level : Resource → Work → ℕ
 level exprs w = length (w .lowered .exprs) + (length (w .lowered .sets) + length (w .lowered .entries))
 level items w = w .used + length (w .waiting) + (length (w .lowered .sets) + length (w .lowered .entries))

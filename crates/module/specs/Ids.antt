@@ -1,4 +1,5 @@
--- Numbers, what may be absent, values of bindings and pointers: what each is in the definitions, where the sorts of numbers are one.
+-- Numbers, what may be absent, values of bindings and pointers: what each is in the definitions, where the sorts of
+-- numbers are one.
 use mathlib.Core.Option.{Option, none, some}
 use Rattle.spec.specs.Basics as spec
 use Rattle.spec.specs.Module as spec-module

@@ -26,8 +26,8 @@ literalOf textOf (code.Text t) = spec.string (textOf (t .0))
 literalOf textOf (code.Path t) = spec.path (textOf (t .0))
 literalOf textOf code.Uri = spec.uri
 
--- What a Nix text can write has no sign and is no NaN. 9218868437227405312 is 7ff0000000000000 hex, the bits of infinity:
--- those of a NaN are above it, and so are all with the sign's bit.
+-- What a Nix text can write has no sign and is no NaN. 9218868437227405312 is 7ff0000000000000 hex, the bits of
+-- infinity: those of a NaN are above it, and so are all with the sign's bit.
 unfoldable pub Unsigned : Float → Type 0
 Unsigned x = floatBits x ≤ 9218868437227405312
 

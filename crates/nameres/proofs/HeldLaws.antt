@@ -1,4 +1,5 @@
--- Every answer that is worked out has a word that a row can hold, where all that the scopes hold has one. Assumes nothing.
+-- Every answer that is worked out has a word that a row can hold, where all that the scopes hold has one. Assumes
+-- nothing.
 use mathlib.Core.Path.{_≡_}
 use mathlib.Core.List.{List}
 use mathlib.Core.Option.{Option}

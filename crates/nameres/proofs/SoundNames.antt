@@ -1,4 +1,5 @@
--- Where scopes fit every entered name and every With is one that there is, so that a row can hold its number. Assumes nothing.
+-- Where scopes fit every entered name and every With is one that there is, so that a row can hold its number. Assumes
+-- nothing.
 use mathlib.Core.Path.{_≡_, refl}
 use mathlib.Core.Logic.{inr}
 use mathlib.Core.Bool.{Bool, true, false, _&&_, _||_, and-eq-true-iff}

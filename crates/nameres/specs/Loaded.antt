@@ -1,4 +1,5 @@
--- What is kept of a whole module: for every module that a store can keep, as that of every sheet that is accepted, without a limit.
+-- What is kept of a whole module: for every module that a store can keep, as that of every sheet that is accepted,
+-- without a limit.
 use mathlib.Core.Path.{_≡_}
 use mathlib.Core.Bool.{true}
 use mathlib.Core.List.{List}
@@ -23,7 +24,8 @@ pub record Keepable (m : Module) : Type 0 where
   pub walkable : Walkable m
   pub ranged : InRange (length (m .names)) (length (m .exprs)) (scopesOf m)
 
--- From the store s all that is kept of its module was worked out, in the store t; the module, the nodes and the texts are as they were.
+-- From the store s all that is kept of its module was worked out, in the store t; the module, the nodes and the texts
+-- are as they were.
 pub record KeepsAll (s t : List ℕ) : Type 0 where
   pub wrote : Wrote keeping s t
   pub still : Still s t

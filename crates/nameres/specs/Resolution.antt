@@ -38,7 +38,8 @@ unfoldable pub setTo : {A : Type 0} → (ℕ → A) → ℕ → List A → List 
 setTo f zero xs = xs
 setTo f (suc n) xs = set (setTo f n xs) n (f n)
 
--- The answers are as `as′` says of what was kept, and nothing else is another. What fitted as an answer, in whatever row, goes on to fit.
+-- The answers are as `as′` says of what was kept, and nothing else is another. What fitted as an answer, in whatever
+-- row, goes on to fit.
 pub record Answers (as′ : Kept → List (Option Answer)) (s t : List ℕ) : Type 0 where
   pub wrote : Wrote answering s t
   pub still : Still s t
@@ -91,7 +92,8 @@ pub record Resolved (s t : List ℕ) : Type 0 where
     spent = keptIn s .spent;
   })
 
--- The References that bear the old or the new text are resolved again, and the kept lists are up to date. All fits where every answer fitted.
+-- The References that bear the old or the new text are resolved again, and the kept lists are up to date. All fits
+-- where every answer fitted.
 pub record ResolvedAgain (old new : Text) (s t : List ℕ) : Type 0 where
   pub wrote : Wrote resolving s t
   pub still : Still s t

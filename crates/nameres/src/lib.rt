@@ -1,5 +1,5 @@
-// nameres.rs, from compute_name_resolution on: the kept answer of every Reference and the kept references of every name,
-// for a module and after a change of one text.
+// nameres.rs, from compute_name_resolution on: the kept answer of every Reference and the kept references of every
+// name, for a module and after a change of one text.
 //
 // It knows no byte offset. Every contract is an equation with the definitions of what a store keeps.
 mod resolution;

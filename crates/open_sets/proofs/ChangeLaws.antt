@@ -77,7 +77,8 @@ of-still : (s t : List ℕ) (tag set a b nested sort e : ℕ) → Still s t → 
 unfolding entryOf
 of-still s t tag set a b nested sort e still = rw (text-still s t a still)
 
--- A change that only a static entry feels: another nested set, another value. In a row of another sort these words are free.
+-- A change that only a static entry feels: another nested set, another value. In a row of another sort these words are
+-- free.
 module _ (f : MergingEntry → MergingEntry) (sources : (x y : ℕ) → f (source x y) ≡ source x y) (dynamics : (x y z : ℕ) → f (dynamic x y z) ≡ dynamic x y z) where
   of-changed : (s : List ℕ) (tag set a b nested sort e nested-now sort-now e-now : ℕ) → f (static set (textIn s a) b (marked nested) (valueOf sort e)) ≡ static set (textIn s a) b (marked nested-now) (valueOf sort-now e-now) → entryOf s tag set a b nested-now sort-now e-now ≡ f (entryOf s tag set a b nested sort e)
   unfolding entryOf

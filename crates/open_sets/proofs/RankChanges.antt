@@ -1,4 +1,5 @@
--- The run where an entry is put in the place of another that stands as it does, and where the sets on top are cut off. Assumes nothing.
+-- The run where an entry is put in the place of another that stands as it does, and where the sets on top are cut off.
+-- Assumes nothing.
 use mathlib.Core.Path.{_≡_, refl, sym, ap, _∙_}
 use mathlib.Core.List.{List, [], _∷_, _++_, map, map-map, map-append}
 use Prim.Native.Nat.{ℕ, suc, _+_, _<_, _≤_}

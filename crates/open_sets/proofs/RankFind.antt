@@ -1,4 +1,5 @@
--- The number that `find` gives is in the place of the run where the entries begin that are not before the key. Assumes nothing.
+-- The number that `find` gives is in the place of the run where the entries begin that are not before the key. Assumes
+-- nothing.
 use mathlib.Core.Path.{_≡_, refl, sym, ap, _∙_}
 use mathlib.Core.Bool.{Bool, true, false, not}
 use mathlib.Core.List.{List, [], _∷_}

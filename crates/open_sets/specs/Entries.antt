@@ -1,4 +1,5 @@
--- Entries of the sets that are being merged: what the code's are in the definitions, and steps on sets and entries in a store.
+-- Entries of the sets that are being merged: what the code's are in the definitions, and steps on sets and entries in a
+-- store.
 use mathlib.Core.Path.{_≡_}
 use mathlib.Core.List.{List, [], _∷_}
 use mathlib.Core.Option.{Option, none, some}

@@ -1,5 +1,5 @@
--- The run: the numbers of the entries that are being merged, in the order of their sets, within a set statics, then sources, then dynamics, and statics in
--- the byte order of their keys. Of equal ones the earlier number stands first.
+-- The run: the numbers of the entries that are being merged, in the order of their sets, within a set statics, then
+-- sources, then dynamics, and statics in the byte order of their keys. Of equal ones the earlier number stands first.
 use mathlib.Core.Path.{_≡_}
 use mathlib.Core.Bool.{Bool, true, false}
 use mathlib.Core.List.{List, [], _∷_, _++_, map}

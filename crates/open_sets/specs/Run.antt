@@ -1,4 +1,5 @@
--- The run in a store: where an entry stands in it, the entries of a set one after the other, and what adding an entry does.
+-- The run in a store: where an entry stands in it, the entries of a set one after the other, and what adding an entry
+-- does.
 use mathlib.Core.Path.{_≡_}
 use mathlib.Core.Bool.{Bool, true, false, not}
 use mathlib.Core.List.{List, [], _∷_}

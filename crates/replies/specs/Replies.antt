@@ -1,4 +1,5 @@
--- What a host is told of a call: the number returned, the five words of the reply, and the list in the buffer (docs/STORE.md, "Reply and buffer").
+-- What a host is told of a call: the number returned, the five words of the reply, and the list in the buffer
+-- (docs/STORE.md, "Reply and buffer").
 use mathlib.Core.Path.{_≡_}
 use mathlib.Core.List.{List, [], _∷_}
 use Prim.Native.Nat.{ℕ}

@@ -123,7 +123,8 @@ unfolding taken
 taken-low [] = omega arith
 taken-low (b ∷ bs) = omega arith
 
--- ---- another text: it is added, a row gets its number, the room is spent, and what bears the old or the new text is resolved again
+-- ---- another text: it is added, a row gets its number, the room is spent, and what bears the old or the new text is
+-- resolved again
 module _ (s0 s1 s2 s3 s4 : List ℕ) (bytes old : Text) (k o : ℕ) (m : Module) (added : Texted bytes s0 k s1)
     (still : Still s1 s2) (spends : Spends (length bytes) s2 s3) (again : ResolvedAgain (textIn s3 o) (textIn s3 k) s3 s4)
     (row : sound s0 ≡ true → textIn s1 k ≡ bytes → keptIn s2 ≡ withModule m (keptIn s0)) (was : sound s0 ≡ true → textIn s1 o ≡ old) where

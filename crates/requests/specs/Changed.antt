@@ -27,8 +27,8 @@ pub record Spends (n : ℕ) (s t : List ℕ) : Type 0 where
 unfoldable pub changed : Kept → Call → Kept
 changed k c = keptWith k c (not (equalb (oldText (k .lowered) c) (newText c)))
 
--- The change is made, where the store is sound and its change room holds the text, and the store is sound then. An equal text leaves every byte as it is, in
--- any store.
+-- The change is made, where the store is sound and its change room holds the text, and the store is sound then. An
+-- equal text leaves every byte as it is, in any store.
 pub record Changes (c : Call) (s t : List ℕ) : Type 0 where
   pub wrote : Wrote changing s t
   pub does : sound s ≡ true → keptIn s .spent + length (newText c) ≤ roomLimit → keptIn t ≡ changed (keptIn s) c

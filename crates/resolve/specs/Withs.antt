@@ -25,7 +25,8 @@ pub record WroteOne (k : ScopeKind) (n m : ℕ) (b : List ℕ) (r : ℕ) (c : Li
   pub wrote : c ≡ setAll b (4 * (n - m)) (ifWith k)
   pub left : r + length (ifWith k) ≡ m
 
--- How many there are, r, was told; they stand in the buffer b, which is c now, as numbers of four bytes, if it has room for all of them.
+-- How many there are, r, was told; they stand in the buffer b, which is c now, as numbers of four bytes, if it has room
+-- for all of them.
 pub record Lists (es : List ExprId) (b : List ℕ) (r : ℕ) (c : List ℕ) : Type 0 where
   pub count : r ≡ length es
   pub wrote : 4 * length es ≤ length b → c ≡ setAll b 0 es

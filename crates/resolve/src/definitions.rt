@@ -1,5 +1,5 @@
-// The name that a scope defines for a text. Of equal texts the last entered answers, so that the search goes from the last one down
-// and stops at the first that it finds.
+// The name that a scope defines for a text. Of equal texts the last entered answers, so that the search goes from the
+// last one down and stops at the first that it finds.
 ghost use mathlib.Core.Path.{_≡_};
 ghost use lib.ListN.{getElem?};
 ghost use Rattle.spec.specs.Answer.{scopeAt, textOfName, definedIn};

@@ -1,7 +1,8 @@
 // What a name means where it is used: resolve_name of nameres.rs, over any bytes of a store.
 //
-// It reads scopes, names and texts through the crates below and knows no offset. No number that a store holds is trusted: a scope's
-// parents are followed no further than its own number says, so that every walk ends, also where they go round.
+// It reads scopes, names and texts through the crates below and knows no offset. No number that a store holds is
+// trusted: a scope's parents are followed no further than its own number says, so that every walk ends, also where they
+// go round.
 mod chain;
 mod definitions;
 mod names;

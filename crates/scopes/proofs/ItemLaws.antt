@@ -1,5 +1,5 @@
--- The items of an expression, one by one: a walk leaves them as they were, and what they hand on and enter is put together from what each of them does. Assumes
--- nothing.
+-- The items of an expression, one by one: a walk leaves them as they were, and what they hand on and enter is put
+-- together from what each of them does. Assumes nothing.
 use mathlib.Core.Path.{_≡_, refl, sym, ap, _∙_}
 use mathlib.Core.Bool.{Bool, true, false}
 use mathlib.Core.List.{List, [], _∷_, _++_, append-assoc}

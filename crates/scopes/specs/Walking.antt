@@ -1,5 +1,6 @@
--- Walking a module in a store: what a step of the code is against a step of the definitions. The steps that open scopes test their limits, the definitions have
--- none; so a step of the code is that of the definitions where all that the definitions open has room.
+-- Walking a module in a store: what a step of the code is against a step of the definitions. The steps that open scopes
+-- test their limits, the definitions have none; so a step of the code is that of the definitions where all that the
+-- definitions open has room.
 use mathlib.Core.Path.{_≡_}
 use mathlib.Core.List.{List}
 use Prim.Native.Nat.{ℕ, _≤_, _<_}
@@ -21,13 +22,15 @@ pub record Fits (w : Scopes) : Type 0 where
   pub few-scopes : length (w .scopes) ≤ scopeLimit
   pub few-names : enteredBy (w .scopes) ≤ nameLimit
 
--- What a walk in the scope starts from: a scope that can be there, and a module whose children are numbered below their owners.
+-- What a walk in the scope starts from: a scope that can be there, and a module whose children are numbered below their
+-- owners.
 pub record WalkStart (scope : ScopeId) (s : List ℕ) : Type 0 where
   pub known : scope < scopeLimit
   pub ordered : Ordered (moduleIn s .exprs)
   pub neat : Neat s
 
--- From the store s a walk in the scope gave r and left the store t, as the step p of the definitions says of the module; all else is as it was.
+-- From the store s a walk in the scope gave r and left the store t, as the step p of the definitions says of the
+-- module; all else is as it was.
 pub record Walks {A : Type 0} (scope : ScopeId) (p : Module → Walk A) (s : List ℕ) (r : A) (t : List ℕ) : Type 0 where
   pub wrote : Wrote walking s t
   pub still : Still s t

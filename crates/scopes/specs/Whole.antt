@@ -1,4 +1,5 @@
--- The scopes of a whole module: for every module that can be walked, as that of every sheet that is accepted, without a limit.
+-- The scopes of a whole module: for every module that can be walked, as that of every sheet that is accepted, without a
+-- limit.
 use mathlib.Core.Path.{_≡_}
 use mathlib.Core.List.{List}
 use Prim.Native.Nat.{ℕ, _≤_}
@@ -21,7 +22,8 @@ pub record Walkable (m : Module) : Type 0 where
   pub ordered : Ordered (m .exprs)
   pub room : Fits (scopesOf m)
 
--- From the store s the scopes of its module were worked out, in the store t; the module, the kept references, the nodes and the texts are as they were.
+-- From the store s the scopes of its module were worked out, in the store t; the module, the kept references, the nodes
+-- and the texts are as they were.
 pub record ScopesAll (s t : List ℕ) : Type 0 where
   pub wrote : Wrote walking s t
   pub still : Still s t

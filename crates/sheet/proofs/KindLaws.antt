@@ -1,5 +1,5 @@
--- The rules of the kinds by one match each: a test that is computed over the whole table, and a law that turns it into the rule at a number.
--- Assumes nothing.
+-- The rules of the kinds by one match each: a test that is computed over the whole table, and a law that turns it into
+-- the rule at a number. Assumes nothing.
 use mathlib.Core.Path.{_≡_, refl, sym, ap, subst, _∙_}
 use mathlib.Core.Bool.{Bool, true, _&&_, _||_}
 use mathlib.Core.Logic.{_⊎_, ⊎-elim}

@@ -1,5 +1,5 @@
--- Hex as the code reads it: each two digits are a byte, and a digit that is none counts as 0. Where a text is hex, this gives the bytes
--- that `hex` does (proofs/TextLaws.antt, `hex-decoded`, `text-agree`).
+-- Hex as the code reads it: each two digits are a byte, and a digit that is none counts as 0. Where a text is hex, this
+-- gives the bytes that `hex` does (proofs/TextLaws.antt, `hex-decoded`, `text-agree`).
 use mathlib.Core.Bool.{Bool, true, false}
 use mathlib.Core.List.{List, [], _∷_}
 use mathlib.Core.Option.{Option}

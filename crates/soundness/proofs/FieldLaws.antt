@@ -1,4 +1,5 @@
--- The words of an expression's row, sort by sort: what the expression says of its numbers is what the test asks. Assumes nothing.
+-- The words of an expression's row, sort by sort: what the expression says of its numbers is what the test asks.
+-- Assumes nothing.
 use mathlib.Core.Path.{_≡_, refl}
 use mathlib.Core.Bool.{Bool, true, false, _&&_}
 use mathlib.Core.List.{List, [], _∷_, _++_}

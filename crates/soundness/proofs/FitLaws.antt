@@ -1,4 +1,5 @@
--- Bytes that say a sound module, and are what decoding takes them for, pass the module's part of the test. Assumes nothing.
+-- Bytes that say a sound module, and are what decoding takes them for, pass the module's part of the test. Assumes
+-- nothing.
 use mathlib.Core.Path.{_≡_, refl, ap, subst, _∙_}
 use mathlib.Core.Bool.{true, or-true}
 use mathlib.Core.List.{List, []}

@@ -1,4 +1,5 @@
--- What fits goes on to fit where its words are as they were, or others that fit have come in their place. Assumes nothing.
+-- What fits goes on to fit where its words are as they were, or others that fit have come in their place. Assumes
+-- nothing.
 use mathlib.Core.Path.{_≡_, refl, sym, ap, _∙_}
 use mathlib.Core.Bool.{Bool, true, false, _&&_, _||_}
 use mathlib.Core.List.{List, [], _∷_}

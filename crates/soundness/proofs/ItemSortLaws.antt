@@ -1,4 +1,5 @@
--- An item of an expression's lists, sort by sort: what the expression says of its numbers is what the test asks of the item's words. Assumes nothing.
+-- An item of an expression's lists, sort by sort: what the expression says of its numbers is what the test asks of the
+-- item's words. Assumes nothing.
 use mathlib.Core.Path.{_≡_, subst}
 use mathlib.Core.Bool.{true, _&&_, _||_}
 use mathlib.Core.List.{List, [], _∷_, _++_}

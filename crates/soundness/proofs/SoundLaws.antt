@@ -1,4 +1,5 @@
--- Laws of the tests over rows, for any test: all rows up to one, those from one on, and firsts that ascend. Assumes nothing.
+-- Laws of the tests over rows, for any test: all rows up to one, those from one on, and firsts that ascend. Assumes
+-- nothing.
 use mathlib.Core.Path.{_≡_, refl, sym, _∙_}
 use mathlib.Core.Bool.{Bool, true, false, _&&_, _||_}
 use mathlib.Mathlib.Data.Bool.Basic.{and-elim-left, and-elim-right, and-intro}

@@ -1,5 +1,5 @@
--- What the bytes of a module have to be beside what they say. Decoding forgets it: a count above its limit, a sort above 28, a tag that does not belong to its sort, a
--- kind above 4, a text past the bytes in use.
+-- What the bytes of a module have to be beside what they say. Decoding forgets it: a count above its limit, a sort
+-- above 28, a tag that does not belong to its sort, a kind above 4, a text past the bytes in use.
 use mathlib.Core.Path.{_≡_}
 use mathlib.Core.Bool.{Bool, true, _&&_, _||_, not}
 use mathlib.Core.List.{List}

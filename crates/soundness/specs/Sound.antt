@@ -23,7 +23,8 @@ allTo f (suc n) = allTo f n && f n
 unfoldable pub allFrom : (ℕ → Bool) → ℕ → ℕ → Bool
 allFrom f i j = allTo (λ k. ltb k i || f k) j
 
--- rows that say where their lists begin: the first begins at 0, none before the one ahead of it, and the last ends within the limit
+-- rows that say where their lists begin: the first begins at 0, none before the one ahead of it, and the last ends
+-- within the limit
 unfoldable pub ascends : (ℕ → ℕ) → ℕ → ℕ → Bool
 ascends first n limit = eqb (first 0) 0 && (allTo (λ i. leb (first i) (first (i + 1))) n && leb (first n) limit)
 

@@ -20,7 +20,8 @@ pub data Answer : Type 0 where
   -- the With expressions, innermost first
   withs : List ExprId → Answer
 
--- Manual, "Built-in constants" and "Built-in functions": names that are there without `builtins.` in front. The 22 of GLOBAL_BUILTIN_NAMES.
+-- Manual, "Built-in constants" and "Built-in functions": names that are there without `builtins.` in front. The 22 of
+-- GLOBAL_BUILTIN_NAMES.
 unfoldable pub builtins : List Text
 builtins =
     bytes "abort" ∷ bytes "baseNameOf" ∷ bytes "builtins" ∷ bytes "derivation" ∷ bytes "dirOf" ∷ bytes "false" ∷ bytes "fetchGit"
@@ -57,8 +58,8 @@ unfoldable pub definedIn : (NameId → Text) → Text → ScopeKind → Option N
 definedIn textOf t (definitions xs) = lastWith textOf t none xs
 definedIn textOf t (withExpr e) = none
 
--- Manual, "Let-expressions", "Recursive attribute sets", "Functions": an inner definition hides an outer one of the same name. The first scope of
--- a chain that defines the text, and the name there.
+-- Manual, "Let-expressions", "Recursive attribute sets", "Functions": an inner definition hides an outer one of the
+-- same name. The first scope of a chain that defines the text, and the name there.
 unfoldable pub innermost : (NameId → Text) → List Scope → Text → List ScopeId → Option (ScopeId × NameId)
 innermost textOf scopes t [] = none
 innermost textOf scopes t (s ∷ ss) = maybe (definedIn textOf t (scopeAt scopes s .kind)) (innermost textOf scopes t ss) (λ x. some (s, x))
@@ -78,8 +79,8 @@ someWiths [] = unresolved
 someWiths (e ∷ es) = withs (e ∷ es)
 
 -- ---- the answer
--- Manual, "With-expressions": what a `with` brings hides no name that is bound in another way. So definitions come first, and so do the built-in
--- names, which are bound around the whole file; a With is asked for what is left.
+-- Manual, "With-expressions": what a `with` brings hides no name that is bound in another way. So definitions come
+-- first, and so do the built-in names, which are bound around the whole file; a With is asked for what is left.
 unfoldable pub afterBuiltins : List ExprId → Option ℕ → Answer
 afterBuiltins es (some i) = builtin i
 afterBuiltins es none = someWiths es

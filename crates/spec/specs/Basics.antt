@@ -7,7 +7,8 @@ use Prim.Native.Nat.{ℕ}
 use Rattle.words.specs.Order.{pick}
 use Prim.Native.String.{String, [] as ε, _∷_ as _▹_}
 
--- the bytes of a text, and the numbers of nodes, expressions, names and scopes: three sorts in the code, plain numbers here
+-- the bytes of a text, and the numbers of nodes, expressions, names and scopes: three sorts in the code, plain numbers
+-- here
 abbrev pub Text : Type 0
 Text = List ℕ
 

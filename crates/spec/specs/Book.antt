@@ -13,11 +13,13 @@ pub record Book : Type 0 where
   pub scopes : Scopes
   pub spent : ℕ
 
--- "It starts with the module and texts that these rules make of the loaded sheet, no room spent": of a loaded sheet's nodes, it is that of `lowerModule nodes`.
+-- "It starts with the module and texts that these rules make of the loaded sheet, no room spent": of a loaded sheet's
+-- nodes, it is that of `lowerModule nodes`.
 unfoldable pub bookOf : Module → Book
 bookOf m = record { lowered = m; scopes = scopesOf m; spent = 0 }
 
--- "The checks, put to it, refuse or accept; a short store, 22 and 23 never come up." The answers are those worked out afresh.
+-- "The checks, put to it, refuse or accept; a short store, 22 and 23 never come up." The answers are those worked out
+-- afresh.
 unfoldable pub bookOutcome : Book → Call → Outcome
 bookOutcome b c = outcome (b .lowered) (answer (b .lowered) (b .scopes)) (references (b .lowered) (b .scopes)) (b .spent) fit c
 

@@ -21,8 +21,8 @@ pub data Call : Type 0 where
   changeReference : ℕ → Text → ℕ → Call
   changeName : ℕ → Text → ℕ → Call
 
--- What a call comes to: a refusal, its number and place; the answer of a Reference, whose list is that of its Withs; the kept references of a
--- name; or that the text is set.
+-- What a call comes to: a refusal, its number and place; the answer of a Reference, whose list is that of its Withs;
+-- the kept references of a name; or that the text is set.
 pub data Outcome : Type 0 where
   refusal : ℕ → ℕ → Outcome
   answered : Answer → Outcome
@@ -75,7 +75,8 @@ setReference e t m =
       lost = m .lost;
     }
 
--- What has a text that may change. A change is a text and the places that it sets to it; each of the two changes here sets one.
+-- What has a text that may change. A change is a text and the places that it sets to it; each of the two changes here
+-- sets one.
 pub data Place : Type 0 where
   atName : NameId → Place
   atReference : ExprId → Place
@@ -142,7 +143,8 @@ replyOf (askName n buffer reply) = reply
 replyOf (changeReference n t reply) = reply
 replyOf (changeName n t reply) = reply
 
--- The module, what a Reference is answered, what a name's references are, and the room spent: kept by a store, or worked out afresh by the book.
+-- The module, what a Reference is answered, what a name's references are, and the room spent: kept by a store, or
+-- worked out afresh by the book.
 module _ (m : Module) (answerOf : ExprId → Option Answer) (referencesOf : NameId → List ExprId) (spent : ℕ) where
   -- 26: the list has to fit the buffer
   unfoldable pub inBuffer : ℕ → List ExprId → Outcome → Outcome

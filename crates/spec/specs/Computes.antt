@@ -1,4 +1,5 @@
--- Written by tools/computes.py. Whoever unfolds `computes` unfolds every definition, so that an example is computed whole.
+-- Written by tools/computes.py. Whoever unfolds `computes` unfolds every definition, so that an example is computed
+-- whole.
 use Rattle.words.specs.Equality as Equality
 use Rattle.words.specs.Order as Order
 use Rattle.words.specs.Runs as Runs

@@ -26,7 +26,8 @@ HeldOnce w =
     (x : NameId) (s s′ : ScopeId) → s < length (w .scopes) → s′ < length (w .scopes)
     → holds x (scopeAt (w .scopes) s .kind) ≡ true → holds x (scopeAt (w .scopes) s′ .kind) ≡ true → s ≡ s′
 
--- "whose scope is the name's scope or inside it": the name's scope is in the chain of the Reference's; "a name held by no scope moves none"
+-- "whose scope is the name's scope or inside it": the name's scope is in the chain of the Reference's; "a name held by
+-- no scope moves none"
 unfoldable pub within : Scopes → Option ScopeId → Option ScopeId → Bool
 within w none s = false
 within w (some held) none = false
@@ -68,7 +69,8 @@ module _ (Store : Type 0) (kept : Store → Kept) (condition : Store → Conditi
     pub sound : condition s ≡ fit
     pub once : HeldOnce (scopesOf m)
 
-  -- What loading promises of a sheet that it accepts. It is such a store: that its names are held once is a theorem about lowering.
+  -- What loading promises of a sheet that it accepts. It is such a store: that its names are held once is a theorem
+  -- about lowering.
   pub record LoadedFrom (sheet : List ℕ) (nodes : List Node) (s : Store) : Type 0 where
     pub judged : judge sheet ≡ Judged.accepted nodes
     pub left : kept s ≡ loaded nodes
@@ -81,11 +83,13 @@ module _ (Store : Type 0) (kept : Store → Kept) (condition : Store → Conditi
 
   -- What a store keeps is the book's.
   pub record KeepsBook (b : Book) (s : Store) : Type 0 where
-    -- "the texts, .. in the store after it, are the book's"; with them all of the module, which but for texts stays as loaded
+    -- "the texts, .. in the store after it, are the book's"; with them all of the module, which but for texts stays as
+    -- loaded
     pub texts : kept s .lowered ≡ b .lowered
     -- the book's scopes never change: "over the scopes as loaded"
     pub scopes : kept s .scopes ≡ b .scopes
-    -- "every reference keeps exactly the answer .. that the definition in 2 gives afresh .. for the texts as they then read"
+    -- "every reference keeps exactly the answer .. that the definition in 2 gives afresh .. for the texts as they then
+    -- read"
     pub answers : kept s .answers ≡ answersAfresh (b .lowered) (b .scopes)
     -- "and every name exactly the references"
     pub references : kept s .references ≡ referencesAfresh (b .lowered) (b .scopes)
@@ -96,7 +100,8 @@ module _ (Store : Type 0) (kept : Store → Kept) (condition : Store → Conditi
 
   -- What holds of a call at its turn, b being the book before it.
   pub record Turn (b : Book) (s : Store) (c : Call) (o : Outcome) (t : Store) : Type 0 where
-    -- "Each call's refusal, place, answer, length and list .. are the book's", so that "each accepted asking in the list was answered so at its turn"
+    -- "Each call's refusal, place, answer, length and list .. are the book's", so that "each accepted asking in the
+    -- list was answered so at its turn"
     pub told : o ≡ bookOutcome b c
     -- "and the texts, kept answers and kept references in the store after it"
     pub keeps : KeepsBook (bookAfter b c) t
@@ -108,9 +113,11 @@ module _ (Store : Type 0) (kept : Store → Kept) (condition : Store → Conditi
   Follows b s u calls (done s′) = Unit {0}
   Follows b s u calls (call s′ t u′ c o rest here more) = Turn b s′ c o t × Follows (bookAfter b c) t u′ rest more
 
-  -- What holds of a list of calls from a store that a module was put into: "a single claim about the whole list of calls, not one for each call".
+  -- What holds of a list of calls from a store that a module was put into: "a single claim about the whole list of
+  -- calls, not one for each call".
   pub record Holds (m : Module) (s u : Store) (calls : List (Call × Outcome)) (trace : Trace s calls u) : Type 0 where
-    -- before the first call: "It starts with the module and texts that these rules make of the loaded sheet, no room spent."
+    -- before the first call: "It starts with the module and texts that these rules make of the loaded sheet, no room
+    -- spent."
     pub begins : KeepsBook (bookOf m) s
     -- at every call: "Each call's refusal, place, answer, length and list, and the texts, kept answers and kept
     -- references in the store after it, are the book's"
@@ -123,7 +130,8 @@ module _ (Store : Type 0) (kept : Store → Kept) (condition : Store → Conditi
     -- "over the scopes as loaded"
     pub scopes : kept u .scopes ≡ scopesOf m
 
-  -- "For every list of text changes and askings, refused ones included, whatever numbers and texts they bring, from the store as an accepted load left it"
+  -- "For every list of text changes and askings, refused ones included, whatever numbers and texts they bring, from the
+  -- store as an accepted load left it"
   unfoldable pub Demand3 : Type 0
   Demand3 =
       (sheet : List ℕ) (nodes : List Node) (s : Store) → LoadedFrom sheet nodes s

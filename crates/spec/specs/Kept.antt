@@ -55,7 +55,8 @@ keptReferences k x = getD (k .references) x []
 unfoldable pub keptOutcome : Condition → Kept → Call → Outcome
 keptOutcome store k c = outcome (k .lowered) (keptAnswer k) (keptReferences k) (k .spent) store c
 
--- ---- changing: the text is set, References that bear the old or the new text are resolved again, the others keep their answers
+-- ---- changing: the text is set, References that bear the old or the new text are resolved again, the others keep
+-- their answers
 unfoldable pub bears : Text → Option Text → Bool
 bears t none = false
 bears t (some u) = equalb t u

@@ -28,7 +28,8 @@ takes ident k = eqb k 18
 pub data TextRule : Type 0 where
   noText anyText digits float named : TextRule
 
--- The counted places, each of which may be absent; what a list after them takes, whose items may not; the highest flag; the rule for the text.
+-- The counted places, each of which may be absent; what a list after them takes, whose items may not; the highest flag;
+-- the rule for the text.
 pub record Kind : Type 0 where
   pub counted : List Slot
   pub listed : Option Slot

@@ -77,7 +77,8 @@ nameKey s key p = do
   k ← asks (λ st. setAt s st .nameKind)
   allocName key k p
 
--- merge_static_value. "Any other second value at a key adds a DuplicateKey (first: the name's pointer) and replaces the value."
+-- merge_static_value. "Any other second value at a key adds a DuplicateKey (first: the name's pointer) and replaces the
+-- value."
 unfoldable pub mergeValueAt : SetId → Text → Pointer → BindingValue → Option ℕ → Low (Unit {0})
 mergeValueAt s key p value none = do
   x ← nameKey s key p
@@ -95,8 +96,8 @@ mergeStaticValue s key p value = asks (find s key) >>= mergeValueAt s key p valu
 unfoldable pub newNested : Pointer → Low SetId
 newNested p = newSet PlainAttrset p
 
--- get_or_create_nested_static. "A path after a value makes the nested set, drops the value and adds no diagnostic": the value is dropped when the set
--- is finished.
+-- get_or_create_nested_static. "A path after a value makes the nested set, drops the value and adds no diagnostic": the
+-- value is dropped when the set is finished.
 unfoldable pub nestedOr : ℕ → Pointer → Option SetId → Low SetId
 nestedOr i p (some t) = give t
 nestedOr i p none = do
@@ -116,7 +117,8 @@ nestedStaticAt s key p (some i) = asks (nestedAt (some i)) >>= nestedOr i p
 unfoldable pub getOrCreateNestedStatic : SetId → Text → Pointer → Low SetId
 getOrCreateNestedStatic s key p = asks (find s key) >>= nestedStaticAt s key p
 
--- ---- finish. "A set keeps statics in byte order of key. .. Nested sets are built when the whole set ends, in key order."
+-- ---- finish. "A set keeps statics in byte order of key. .. Nested sets are built when the whole set ends, in key
+-- order."
 pub record Static : Type 0 where
   pub key : Text
   pub name : NameId
@@ -183,7 +185,8 @@ finishExpr s = asks (λ st. length (st .sets)) >>= λ bound. finishTo bound s
 unfoldable pub finish : SetId → Low Bindings
 finish s = asks (λ st. length (st .sets)) >>= λ bound. finishWith (finishTo bound) s
 
--- ---- The entries. `lower` lowers the expression of a node, `merge` merges the entries of a set's node into a set: both one level deeper.
+-- ---- The entries. `lower` lowers the expression of a node, `merge` merges the entries of a set's node into a set:
+-- both one level deeper.
 module _ (nodes : List Node) (lower : NodeId → Low ExprId) (merge : SetId → NodeId → Low (Unit {0})) where
   -- lower_expr_opt: "An absent expression gives Missing without a pointer"
   unfoldable pub lowerOpt : Option NodeId → Low ExprId
@@ -222,7 +225,8 @@ module _ (nodes : List Node) (lower : NodeId → Low ExprId) (merge : SetId → 
   unfoldable pub mergeAttrValue : SetId → NodeId → Option NodeId → Low (Unit {0})
   mergeAttrValue s attr value = mergeAttrAs s attr value (attrKind nodes attr)
 
-  -- merge_nested_attr_value: the attribute, and what comes after it. "A Dynamic key before the end of a path: nested set first, key second."
+  -- merge_nested_attr_value: the attribute, and what comes after it. "A Dynamic key before the end of a path: nested
+  -- set first, key second."
   unfoldable pub mergeStepAs : SetId → NodeId → (SetId → Low (Unit {0})) → AttrKind → Low (Unit {0})
   mergeStepAs s attr rest (staticKey key) = getOrCreateNestedStatic s key (pointer nodes attr) >>= rest
   mergeStepAs s attr rest (dynamicKey key) = do

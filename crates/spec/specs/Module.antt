@@ -93,7 +93,8 @@ pub record Module : Type 0 where
   -- the lost list (document 01's term; docs/RULES.md, "Diagnostics and the lost list")
   pub lost : List Pointer
 
--- ---- The source map. The number-to-pointer side is in the lists; the pointer-to-number side "keeps the last writer", and numbers are given in the order of writing.
+-- ---- The source map. The number-to-pointer side is in the lists; the pointer-to-number side "keeps the last writer",
+-- and numbers are given in the order of writing.
 unfoldable pub samePointer : Pointer → Pointer → Bool
 samePointer p q = eqb (p .kind) (q .kind) && eqb (p .from) (q .from) && eqb (p .to) (q .to)
 

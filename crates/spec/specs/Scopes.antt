@@ -100,7 +100,8 @@ unfoldable pub keysAndValues : List (ExprId × ExprId) → List ExprId
 keysAndValues [] = []
 keysAndValues (d ∷ ds) = d .0 ∷ d .1 ∷ keysAndValues ds
 
--- How an expression is walked: as a function, a With, bindings with or without a body, or through its children where it stands.
+-- How an expression is walked: as a function, a With, bindings with or without a body, or through its children where it
+-- stands.
 pub data Form : Type 0 where
   function : Option NameId → Option Pat → ExprId → Form
   withBody : ExprId → ExprId → Form
@@ -144,9 +145,10 @@ module _ (m : Module) where
 
   -- ---- The two walkers; `traverse` walks an expression with a lower number in a scope.
   module _ (traverse : ScopeId → ExprId → Walk (Unit {0})) where
-    -- traverse_bindings. "Plain inherit walks outside, inherit-from sources inside. .. An InheritFrom Select is not walked." (Manual, "Inheriting
-    -- attributes": `inherit x;` copies x from the surrounding scope, so its own x is no part of it. "Let-expressions" and "Recursive attribute
-    -- sets": the names are in scope in all values; so they are in the expression in the parentheses of an inherit.)
+    -- traverse_bindings. "Plain inherit walks outside, inherit-from sources inside. .. An InheritFrom Select is not
+    -- walked." (Manual, "Inheriting attributes": `inherit x;` copies x from the surrounding scope, so its own x is no
+    -- part of it. "Let-expressions" and "Recursive attribute sets": the names are in scope in all values; so they are
+    -- in the expression in the parentheses of an inherit.)
     unfoldable pub traverseBindings : Bindings → ScopeId → Walk ScopeId
     traverseBindings bs outer = do
       _ ← eachOf (traverse outer) (inherited (bs .statics))
@@ -156,7 +158,8 @@ module _ (m : Module) where
       _ ← eachOf (traverse s) (keysAndValues (bs .dynamics))
       give s
 
-    -- "Lambda (parameter, then fields)". (Manual, "Functions": the parameter and the pattern's names are in scope in the body and in the defaults.)
+    -- "Lambda (parameter, then fields)". (Manual, "Functions": the parameter and the pattern's names are in scope in
+    -- the body and in the defaults.)
     unfoldable pub traverseLambda : Option NameId → Option Pat → ExprId → ScopeId → Walk (Unit {0})
     traverseLambda x p b outer = do
       s ← openFor (oneOrNone x ++ fieldNames (patFields p)) outer

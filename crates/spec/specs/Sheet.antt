@@ -70,7 +70,8 @@ line key s at =
     maybe (after (bytes key) (drop at s)) (bad malformed at) (λ rest.
     maybe (upToEnd rest) (bad malformed at) (λ v. got v (at + length (bytes key) + length v + 1)))
 
--- A value with its form and its rule: read by `parse`, which gives none where the form is wrong (2); else it has to pass the test (3, and why).
+-- A value with its form and its rule: read by `parse`, which gives none where the form is wrong (2); else it has to
+-- pass the test (3, and why).
 unfoldable pub field : {A : Type 0} → String → (Text → Option A) → Fault → (A → Bool) → Reader A
 field key parse why test s at =
     next (λ v _ place. maybe (parse v) (bad malformed at) (λ a. if test a then got a place else bad why at)) s (line key s at)

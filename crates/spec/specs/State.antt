@@ -8,7 +8,8 @@ use Rattle.spec.specs.Basics.{Text, ExprId, NameId}
 use Rattle.spec.specs.Steps.{Step, _>>=_, give, asks}
 use Rattle.spec.specs.Module.{Pointer, BindingValue, Expr, missing, Made, Name, NameKind, DuplicateKey}
 
--- ---- MergingSet. The sets that are being merged are numbered, and each entry says whose it is, so that a nested set is a number.
+-- ---- MergingSet. The sets that are being merged are numbered, and each entry says whose it is, so that a nested set
+-- is a number.
 abbrev pub SetId : Type 0
 SetId = ℕ
 

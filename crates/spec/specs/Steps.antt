@@ -1,4 +1,5 @@
--- Steps on a state, in do-notation: lowering goes in steps on what has been lowered so far, walking in steps on the scopes so far.
+-- Steps on a state, in do-notation: lowering goes in steps on what has been lowered so far, walking in steps on the
+-- scopes so far.
 use mathlib.Core.Bool.{Bool, true, false}
 use mathlib.Core.List.{List, [], _∷_}
 

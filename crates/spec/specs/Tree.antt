@@ -29,7 +29,8 @@ unfoldable pub thenWalk : Walked → (ℕ → Walked) → Walked
 thenWalk (met highest) f = f highest
 thenWalk (stopped number place) f = stopped number place
 
--- 4: as many kids as there are counted places; at least as many where a list follows, and at most 16 attributes in a path
+-- 4: as many kids as there are counted places; at least as many where a list follows, and at most 16 attributes in a
+-- path
 unfoldable pub countFits : ℕ → ℕ → Bool
 countFits kind kids =
     elim (kindOf kind .listed) [

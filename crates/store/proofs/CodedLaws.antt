@@ -1,4 +1,5 @@
--- What is said of a module's bytes beside what they say: it stays where nothing of its part is written. Assumes nothing.
+-- What is said of a module's bytes beside what they say: it stays where nothing of its part is written. Assumes
+-- nothing.
 use mathlib.Core.Path.{_≡_, refl, sym, _∙_}
 use mathlib.Core.Bool.{Bool, true, false, _&&_, and-eq-true-iff}
 use mathlib.Core.List.{List, [], _∷_}

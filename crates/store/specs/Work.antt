@@ -19,8 +19,8 @@ use Rattle.layout.specs.States.{stateOf, waitingOf, usedOf, orderOf}
 use Rattle.soundness.specs.Sound.{tagFits}
 use Rattle.soundness.specs.Coded.{partCoded, Coded}
 
--- the module so far and the open sets; the items that wait for their expression; how many items are in use; the run: the numbers of the open sets' entries, in the
--- order of sets and keys
+-- the module so far and the open sets; the items that wait for their expression; how many items are in use; the run:
+-- the numbers of the open sets' entries, in the order of sets and keys
 pub record Work : Type 0 where
   pub lowered : State
   pub waiting : List Item
@@ -98,7 +98,8 @@ pub record Fine (s : List ℕ) : Type 0 where
   pub coded : Coded s
   pub waits : (i : ℕ) → i < cap (word s waitingCount) waitingLimit → waitCoded s i ≡ true
 
--- From the store s the step gave r and left the store t; the nodes, the texts and all that does not belong to lowering are as they were.
+-- From the store s the step gave r and left the store t; the nodes, the texts and all that does not belong to lowering
+-- are as they were.
 pub record Did {A : Type 0} (p : Working A) (s : List ℕ) (r : A) (t : List ℕ) : Type 0 where
   pub wrote : Wrote lowering s t
   pub still : Still s t

@@ -4,9 +4,9 @@
 //
 // A vector is a line with its title; `sheet=`, the number of the sheet's bytes, and these; `calls=`, their number, and
 // these. A call is four lines: `call=` (0 asks about a Reference, 1 about a name, 2 changes a Reference, 3 a name),
-// `number=`, `lent=` (the bytes of the buffer, or of the new text) and `reply=` (the bytes of the reply); a text follows
-// them, and a line end after it. The first line of the list says what wrote it. It and the titles are read through the
-// Reader, since they are lines of no form; a line with a number is judged as it is read.
+// `number=`, `lent=` (the bytes of the buffer, or of the new text) and `reply=` (the bytes of the reply); a text
+// follows them, and a line end after it. The first line of the list says what wrote it. It and the titles are read
+// through the Reader, since they are lines of no form; a line with a number is judged as it is read.
 ghost use Prim.Native.Nat.{_≤_};
 use layout::tables::STORE_BYTES;
 use libc::STDIN_FILENO;

@@ -1,5 +1,5 @@
--- The loops that compare two runs byte by byte, for any function of the two lists: up to i the runs are the same, and what is left of them
--- decides. Assumes nothing.
+-- The loops that compare two runs byte by byte, for any function of the two lists: up to i the runs are the same, and
+-- what is left of them decides. Assumes nothing.
 use mathlib.Core.Path.{_≡_, sym, ap, _∙_}
 use mathlib.Core.Bool.{true, false}
 use mathlib.Core.List.{List, _∷_}

@@ -1,5 +1,5 @@
--- `order` is a strict total order of lists: `Equal` of equal lists alone, the other way round where the lists change places, and
--- `Less` is transitive. Assumes nothing.
+-- `order` is a strict total order of lists: `Equal` of equal lists alone, the other way round where the lists change
+-- places, and `Less` is transitive. Assumes nothing.
 use mathlib.Core.Path.{_≡_, refl, sym, ap, _∙_}
 use mathlib.Core.Bool.{Bool, true, false}
 use mathlib.Core.List.{List, [], _∷_}

@@ -1,5 +1,5 @@
--- The order of lists of bytes: the first difference decides, and a list that ends where the other goes on is the smaller.
--- The type `Order` is the code's; a crate above names it Rattle.words.specs.declared.ordering.Order.
+-- The order of lists of bytes: the first difference decides, and a list that ends where the other goes on is the
+-- smaller. The type `Order` is the code's; a crate above names it Rattle.words.specs.declared.ordering.Order.
 use mathlib.Core.Bool.{Bool, true, false}
 use mathlib.Core.List.{List, [], _∷_}
 use Prim.Native.Nat.{ℕ}

@@ -3,7 +3,8 @@ use mathlib.Core.List.{List, [], _∷_}
 use Prim.Native.Nat.{ℕ, zero, suc, _+_, _*_, _/_, _%_}
 use Rattle.words.specs.Runs.{run, splice}
 
--- the number that bytes spell. Each is taken below 256, so that k of them spell a number below 256 ^ k whatever the list
+-- the number that bytes spell. Each is taken below 256, so that k of them spell a number below 256 ^ k whatever the
+-- list
 unfoldable pub number : List ℕ → ℕ
 number [] = 0
 number (b ∷ bs) = b % 256 + 256 * number bs

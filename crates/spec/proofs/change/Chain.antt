@@ -50,8 +50,8 @@ module _ (f g : NameId → Text) (t : Text) where
     answerAt-same none h = refl
     answerAt-same (some s) h = ap (afterDefinitions scopes t (chain scopes s)) (innermost-same (chain scopes s) h)
 
--- THEOREM. If two ways of naming agree on every name that a scope of the list holds, then the search of the list comes to the same scope and name, or
--- to nothing in both.
+-- THEOREM. If two ways of naming agree on every name that a scope of the list holds, then the search of the list comes
+-- to the same scope and name, or to nothing in both.
 pub innermost-agree : (f g : NameId → Text) (scopes : List Scope) (t : Text) (ss : List ScopeId) → ((x : NameId) → HeldIn scopes ss x → f x ≡ g x)
     → innermost f scopes t ss ≡ innermost g scopes t ss
 innermost-agree f g scopes t ss h = innermost-same f g t scopes ss (λ x p. rw (h x p))

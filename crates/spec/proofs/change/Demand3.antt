@@ -75,8 +75,9 @@ module _ (k : Kept) (fresh : Afresh k) where
         go false p = absurd (moved (reference-moves-itself (k .lowered) n t (k .scopes) e (eqb-false e n p)))
     text-moves (changeName x t reply) e moved = name-moves (k .scopes) once (k .lowered) x t e moved
 
-    -- THEOREM. A call moves only what it may: an asking, a refused call and an equal text nothing; a changed Reference its own answer; a changed name answers
-    -- of References that bear the old or the new text and whose scope is the name's scope or inside it.
+    -- THEOREM. A call moves only what it may: an asking, a refused call and an equal text nothing; a changed Reference
+    -- its own answer; a changed name answers of References that bear the old or the new text and whose scope is the
+    -- name's scope or inside it.
     pub call-moves : (c : Call) → Moves k c (keptOutcome fit k c) (keptAfter fit k c)
     call-moves c =
         record {
@@ -87,8 +88,8 @@ module _ (k : Kept) (fresh : Afresh k) where
 
 -- ---- a list of calls
 module _ (Store : Type 0) (kept : Store → Kept) (condition : Store → Condition) where
-  -- A store from which any list of calls may go on: a call finds nothing amiss with it, everything kept is as it is worked out afresh, and no name is held by
-  -- two scopes. A load leaves such a store, and so does every call.
+  -- A store from which any list of calls may go on: a call finds nothing amiss with it, everything kept is as it is
+  -- worked out afresh, and no name is held by two scopes. A load leaves such a store, and so does every call.
   pub record Ready (s : Store) : Type 0 where
     pub sound : condition s ≡ fit
     pub fresh : Afresh (kept s)

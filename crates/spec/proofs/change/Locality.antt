@@ -123,7 +123,8 @@ module _ (m : Module) (x : NameId) (t : Text) where
         go none k = refl
         go (some u) k = rw (answerAt-same (textOfName (setName x t m)) (textOfName m) u (w .scopes) (scopeOfExpr w e) (k u refl))
 
-    -- THEOREM. The answer of a Reference that bears neither the old nor the new text stays; so does that of what is no Reference.
+    -- THEOREM. The answer of a Reference that bears neither the old nor the new text stays; so does that of what is no
+    -- Reference.
     pub unborne-stays : bears (nameAt m x .text) (referenceText (exprAt m e)) || bears t (referenceText (exprAt m e)) ≡ false
         → answer (setName x t m) w e ≡ answer m w e
     unfolding bears
@@ -170,7 +171,8 @@ module _ (w : Scopes) (once : HeldOnce w) where
           let same = once x (h .0) (r .0) (holds-within x (w .scopes) (h .0) (h .1)) (holds-within x (w .scopes) (r .0) (r .2)) (h .1) (r .2) in
           rw (h .2, zero-add, same) (r .1)
 
-  -- THEOREM. A changed name moves only answers of References that bear its old or new text and whose scope is the name's scope or inside it.
+  -- THEOREM. A changed name moves only answers of References that bear its old or new text and whose scope is the
+  -- name's scope or inside it.
   pub name-moves : (m : Module) (x : NameId) (t : Text) (e : ExprId) → answer (setName x t m) w e ≢ answer m w e
       → (bears (nameAt m x .text) (referenceText (exprAt m e)) || bears t (referenceText (exprAt m e)) ≡ true)
       × (within w (holder w x) (scopeOfExpr w e) ≡ true)

@@ -30,7 +30,8 @@ weightless =
 abbrev pub Same : State → State → Type 0
 Same st after = (after .entries ≡ st .entries) × (after .sets ≡ st .sets)
 
--- The two steps that merge sets of their own: the bindings of a let or a set, and the nested set of a key that is not static.
+-- The two steps that merge sets of their own: the bindings of a let or a set, and the nested set of a key that is not
+-- static.
 pub record Leaves (nodes : List Node) (lower : NodeId → Low ExprId) (merge : SetId → NodeId → Low (Unit {0})) : Type 0 where
   pub bindings : (k : NameKind) (n : NodeId) (st : State) → Known st → Same st (desugar nodes lower merge k n st .1)
   pub nested : (p : Pointer) (attr : NodeId) (more : List NodeId) (value : Option NodeId) (st : State) → Known st

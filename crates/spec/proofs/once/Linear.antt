@@ -176,7 +176,8 @@ begins-empty k q st =
       sets = refl;
     }
 
--- THEOREM. A set that is merged and finished by itself leaves those around it as they were, and what it is finished to weighs no more than has been paid.
+-- THEOREM. A set that is merged and finished by itself leaves those around it as they were, and what it is finished to
+-- weighs no more than has been paid.
 pub inner-lowers : {σ : Scale} {A : Type 0} {w : A → ℕ} (k : NameKind) (q : Pointer) (body : SetId → Low (Unit {0})) (fin : SetId → Low A)
     → ((t : SetId) → Merges σ 0 t (body t))
     → ((E : List MergingEntry) (t : SetId) (st : State) → st .entries ≡ E → Known st → (b : ℕ) × Makes σ (setWeight σ E b t) w st (fin t st))
@@ -337,7 +338,8 @@ module _ (σ : Scale) (nodes : List Node) where
             merges = λ s n. entries-merge nodes lower merge (h .lowers) (h .merges) s n;
           }
 
--- THEOREM. Whatever the names and the expressions of a lowered module weigh, the entry with all that is walked from it weighs no more than they do together.
+-- THEOREM. Whatever the names and the expressions of a lowered module weigh, the entry with all that is walked from it
+-- weighs no more than they do together.
 pub lowered-weighs : (nodes : List Node) (σ : Scale) → σ .lowered ≡ lowerModule nodes
     → σ .weight (lowerModule nodes .entry) ≤ upTo (σ .ofName) (length (lowerModule nodes .names)) + upTo (σ .ofExpr) (length (lowerModule nodes .exprs))
 unfolding lowerModule moduleOf

@@ -112,7 +112,8 @@ module _ (x : NameId) where
         adds-at-most _ _ (omega arith) (adds-then _ _ (adds-bindings bs s) (λ t. adds-all t (oneOrNone body)))
     adds-as own (through es) s = adds-at-most _ _ (omega arith) (adds-all s es)
 
-  -- THEOREM. The walk from an expression enters a name at most as often as it stands among what is entered by the expressions that are met.
+  -- THEOREM. The walk from an expression enters a name at most as often as it stands among what is entered by the
+  -- expressions that are met.
   pub walk-enters : (m : Module) (b : ℕ) (s : ScopeId) (e : ExprId) → Adds (timesEntered m x b e) (traverseTo m b s e)
   unfolding traverseTo give
   walk-enters m zero s e = record { adds = λ w. omega arith }

@@ -35,7 +35,8 @@ NamesSets low high e = Between low high (setOf e) × All (Between low high) (one
 abbrev pub Known : State → Type 0
 Known st = All (NamesSets 0 (length (st .sets))) (st .entries)
 
--- A module, the weights of its names and of its expressions alone, and a weight of expressions with all that is walked from them.
+-- A module, the weights of its names and of its expressions alone, and a weight of expressions with all that is walked
+-- from them.
 pub record Scale : Type 0 where
   pub lowered : Module
   pub ofName : NameId → ℕ
@@ -57,7 +58,8 @@ module _ (σ : Scale) where
     pub more : List Made
     pub goes-on : st .exprs ++ more ≡ σ .lowered .exprs
 
-  -- A step made something: the sets that are being merged are as they were, and the result weighs no more than was owed and has been paid.
+  -- A step made something: the sets that are being merged are as they were, and the result weighs no more than was owed
+  -- and has been paid.
   pub record Makes {A : Type 0} (owed : ℕ) (w : A → ℕ) (st : State) (r : A × State) : Type 0 where
     pub entries : r .1 .entries ≡ st .entries
     pub sets : r .1 .sets ≡ st .sets

@@ -13,7 +13,8 @@ use Rattle.spec.specs.Basics.{if_then_else_}
 use Rattle.spec.specs.Sheet.{Node, Fault, wrongCount, Got, got, bad, Reader, next, _>>=_, give, number, node, nodesFrom, nodeList, Judged, accepted, refused, whole, readSheet, faultNumber}
 use Rattle.spec.specs.Tree.{Walked, met, stopped, walkTo, wholeTree, judgeTree, judge}
 
--- The nodes of a sheet of `nodes` nodes from number i on, the first of them at the place `at`, and the place after the last.
+-- The nodes of a sheet of `nodes` nodes from number i on, the first of them at the place `at`, and the place after the
+-- last.
 pub data Reads (s : List ℕ) (nodes : ℕ) : ℕ → ℕ → List Node → ℕ → Type 0 where
   none-left : (i at : ℕ) → Reads s nodes i at [] at
   one-more : (i at place end : ℕ) (n : Node) (ns : List Node) → node nodes i s at ≡ got n place → Reads s nodes (i + 1) place ns end → Reads s nodes i at (n ∷ ns) end

@@ -472,12 +472,14 @@ both-few nodes (suc d) =
     }
 
 -- ---- The theorem
--- Lowering the node n, whose subtree is n to h: two list items for each node below it, and one Reference for each node; both stacks are as they were.
+-- Lowering the node n, whose subtree is n to h: two list items for each node below it, and one Reference for each node;
+-- both stacks are as they were.
 pub lower-items : (nodes : List Node) (d left n h : ℕ) → left < d → walkTo nodes left n ≡ met h → (st : State) → Known st
     → Filled 0 light (2 * (h - n)) (h - n + 1) st (lowerExpr nodes d n st)
 lower-items nodes d left n h l w st known = both-few nodes d .lowers .fills (st .entries) n h (record { levels = left; fewer = l; walked = w }) .fills st refl known
 
--- Merging the entries of the AttrSet n into a set, on top of any others: list items and entries together two for each node below it, References one.
+-- Merging the entries of the AttrSet n into a set, on top of any others: list items and entries together two for each
+-- node below it, References one.
 pub merge-items : (nodes : List Node) (d left n h : ℕ) → left < d → walkTo nodes left n ≡ met h → kind nodes n ≡ 16
     → (E : List MergingEntry) (Z : List MergingSet) (s : SetId) (st : State) → Base E Z → Inside E Z st → Between (length Z) (length (st .sets)) s
     → Gathered E Z (2 * (h - n)) (h - n) st (mergeBindings nodes d s n st .1)

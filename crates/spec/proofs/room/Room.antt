@@ -440,8 +440,8 @@ both nodes (suc d) =
     }
 
 -- ---- The theorem
--- Lowering the node n, whose subtree is n to h, from any state with sound stacks: four expressions for each node, one name and one diagnostic for each
--- below it; both stacks are as they were.
+-- Lowering the node n, whose subtree is n to h, from any state with sound stacks: four expressions for each node, one
+-- name and one diagnostic for each below it; both stacks are as they were.
 pub lower-room : (nodes : List Node) (d left n h : ℕ) → left < d → walkTo nodes left n ≡ met h → (st : State) → NestedOnce (length (st .sets)) (st .entries) → Added (4 * (h + 1 - n)) (h - n) st (lowerExpr nodes d n st .1)
 lower-room nodes d left n h l w st f =
     let s : Sub nodes d n h = record { levels = left; fewer = l; walked = w } in
@@ -455,15 +455,17 @@ lower-through nodes d left n h l w st f m u v =
     let i = sub-le nodes s in
     both nodes d .lowers .adds (st .sets) (st .entries) f n h s .through m (omega arith) (omega arith) st refl refl
 
--- Merging the entries of the AttrSet n into a set, on top of any sound stacks: four expressions and nested sets together for each node below it, one name,
--- one diagnostic, one nested set and one entry; and what was below in the stacks is as it was.
+-- Merging the entries of the AttrSet n into a set, on top of any sound stacks: four expressions and nested sets
+-- together for each node below it, one name, one diagnostic, one nested set and one entry; and what was below in the
+-- stacks is as it was.
 pub merge-room : (nodes : List Node) (d left n h : ℕ) → left < d → walkTo nodes left n ≡ met h → kind nodes n ≡ 16 → (first : List MergingSet) (old : List MergingEntry) (s : SetId) → length first ≤ s → (st : State) → Over first old st → s < length (st .sets) → Merged first old (4 * (h - n)) (h - n) st (mergeBindings nodes d s n st .1)
 merge-room nodes d left n h l w e first old s i st o j = both nodes d .merges .merges first old s i n h e (record { levels = left; fewer = l; walked = w }) .from st o j
 
 pub merge-through : (nodes : List Node) (d left n h : ℕ) → left < d → walkTo nodes left n ≡ met h → kind nodes n ≡ 16 → (first : List MergingSet) (old : List MergingEntry) (s : SetId) → length first ≤ s → (st : State) → Over first old st → s < length (st .sets) → (l : ℕ) → length (st .sets) + (h - n) ≤ l → length (st .entries) + (h - n) ≤ l → Through l (Unit {0}) (mergeBindings nodes d s n) st
 merge-through nodes d left n h l w e first old s i st o j m u v = both nodes d .merges .merges first old s i n h e (record { levels = left; fewer = l; walked = w }) .through m st o j u v
 
--- "Four expressions, one name and one scope per node always suffice": in the module, and in the stacks while it is made.
+-- "Four expressions, one name and one scope per node always suffice": in the module, and in the stacks while it is
+-- made.
 pub record Room (nodes : List Node) : Type 1 where
   pub exprs-few : length (lowerModule nodes .exprs) ≤ 4 * length nodes
   pub names-few : length (lowerModule nodes .names) ≤ length nodes

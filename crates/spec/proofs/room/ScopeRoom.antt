@@ -449,7 +449,8 @@ met-scopes nodes h w k =
     let z = both-light (m .exprs) ω own nodes 256 .lowers .weighs [] [] f (omega arith) (Unit {0}) 0 h s .light tt empty refl refl (grown-same _) in
     omega (arith, scopes-opened m, rw k at z)
 
--- Of every list of nodes that the walk accepts, whose first is a Root, walking the module opens at most one scope for each node, the root scope among them.
+-- Of every list of nodes that the walk accepts, whose first is a Root, walking the module opens at most one scope for
+-- each node, the root scope among them.
 pub scope-room : (nodes : List Node) → judgeTree (accepted nodes) ≡ accepted nodes → kind nodes 0 ≡ 21 → length (scopesOf (lowerModule nodes) .scopes) ≤ length nodes
 scope-room nodes e k =
     let z = walked-all nodes e in

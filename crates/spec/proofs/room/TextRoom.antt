@@ -100,7 +100,8 @@ short s ns e = go (leb (length s) 1048576) refl e
     go true h e = leb-true (length s) 1048576 h
     go false h e = let z : _≡_ {A = ℕ} 0 1 = cc in absurd (omega arith)
 
--- THEOREM. The texts of an accepted sheet, four bytes being counted for each beside its own, take at most half of the sheet's bytes, 524,288.
+-- THEOREM. The texts of an accepted sheet, four bytes being counted for each beside its own, take at most half of the
+-- sheet's bytes, 524,288.
 pub text-room : (s : List ℕ) (nodes : List Node) → judge s ≡ accepted nodes → (2 * textBytes nodes ≤ length s) × (textBytes nodes ≤ 524288)
 unfolding judge judgeTree
 text-room s nodes e = go (readSheet s) refl e

@@ -125,7 +125,8 @@ module _ (c : ℕ) (es : List MergingEntry) (fine : NestedOnce c es) where
       let w = load es b in
       omega (arith, crossing b n (suc k) (omega arith), step-all c k w es (fine .all), nested-once c es fine (w k) k, load-own es b k, parts k w es, next-all k es)
 
-  -- THEOREM. The entries of a set take no more than there are entries of the sets from it on, and one for each set after it.
+  -- THEOREM. The entries of a set take no more than there are entries of the sets from it on, and one for each set
+  -- after it.
   pub loads-forest : (b : ℕ) (s : SetId) → s < c → loads es b s ≤ entriesFrom s es + (c - suc s)
   loads-forest b s h =
       let w = load es b in

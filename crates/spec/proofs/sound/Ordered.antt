@@ -674,7 +674,8 @@ module _ (nodes : List Node) where
             merges = λ n s m. entries-grow nodes lower merge (h .lowers) (h .merges) n s m;
           }
 
--- THEOREM. In a lowered module every child that is walked has a lower number than its parent, and the entry is an expression of the module.
+-- THEOREM. In a lowered module every child that is walked has a lower number than its parent, and the entry is an
+-- expression of the module.
 pub lowered-ordered : (nodes : List Node) → Ordered (lowerModule nodes .exprs) × (lowerModule nodes .entry < length (lowerModule nodes .exprs))
 unfolding lowerModule moduleOf
 lowered-ordered nodes =

@@ -619,8 +619,9 @@ module _ (nodes : List Node) where
             merges = λ st s m o. entries-keep nodes lower merge (h .lowers) (h .merges) leaves st s m o;
           }
 
--- THEOREM. In a lowered module every name in a row is one of the module's; and of bindings every inherited value is a Reference or, with a source, a Select
--- without default of one of the same bindings' sources, by one text literal; both with a lower number than the row.
+-- THEOREM. In a lowered module every name in a row is one of the module's; and of bindings every inherited value is a
+-- Reference or, with a source, a Select without default of one of the same bindings' sources, by one text literal; both
+-- with a lower number than the row.
 pub lowered-rows : (nodes : List Node) (i : ExprId) → i < length (lowerModule nodes .exprs)
     → Row (length (lowerModule nodes .names)) i (lowerModule nodes .exprs) (form (at (lowerModule nodes .exprs) i))
 unfolding lowerModule moduleOf

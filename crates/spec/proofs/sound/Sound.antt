@@ -45,7 +45,8 @@ pub record Sound (k : Kept) : Type 0 where
   pub children : (e : ExprId) → AllBelow e (exprNumbers (form (exprAt (k .lowered) e)))
   -- every name that it names is one of the names, and every value that it inherits is a Reference or such a Select
   pub rows : (e : ExprId) → Row (length (k .lowered .names)) e (k .lowered .exprs) (form (exprAt (k .lowered) e))
-  -- parents below their children; names entered, Withs and the scopes of expressions in their lists; a place for every expression
+  -- parents below their children; names entered, Withs and the scopes of expressions in their lists; a place for every
+  -- expression
   pub scopes : InRange (length (k .lowered .names)) (length (k .lowered .exprs)) (k .scopes)
   -- a place for the answer of every expression; definitions, built-in names and Withs in their lists
   pub answered : length (k .answers) ≡ length (k .lowered .exprs)

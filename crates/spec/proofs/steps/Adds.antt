@@ -25,7 +25,8 @@ pub record Added (e x : ℕ) (st after : State) : Type 0 where
   pub sets-same : after .sets ≡ st .sets
   pub entries-same : after .entries ≡ st .entries
 
--- Wherever the stacks are ss and es, the step adds at most so much and leaves them; on the way it puts at most x + y more on each.
+-- Wherever the stacks are ss and es, the step adds at most so much and leaves them; on the way it puts at most x + y
+-- more on each.
 pub record Adds {A : Type 0} (ss : List MergingSet) (es : List MergingEntry) (y e x : ℕ) (p : Low A) : Type 1 where
   pub from : (st : State) → st .sets ≡ ss → st .entries ≡ es → Added e x st (p st .1)
   pub through : (l : ℕ) → length ss + (x + y) ≤ l → length es + (x + y) ≤ l → (st : State) → st .sets ≡ ss → st .entries ≡ es → Through l A p st
@@ -119,7 +120,8 @@ pub record Over (first : List MergingSet) (old : List MergingEntry) (st : State)
   pub sets-kept : take (length first) (st .sets) ≡ first
   pub entries-kept : take (length old) (st .entries) ≡ old
 
--- A set that is made counts as an expression, since to finish it takes one: at most e of both more, and x of each of the others.
+-- A set that is made counts as an expression, since to finish it takes one: at most e of both more, and x of each of
+-- the others.
 pub record Merged (first : List MergingSet) (old : List MergingEntry) (e x : ℕ) (st after : State) : Type 0 where
   pub over : Over first old after
   pub exprs-few : length (after .exprs) + length (after .sets) ≤ length (st .exprs) + length (st .sets) + e
@@ -313,7 +315,8 @@ own-set-through {ss = ss} {es = es} e x c k p q end fine into ends l u v st i j 
     let h = held (x + 1) l u v st i j in
     through-inner h (follow _ (through-set k p h (omega arith)) (follow _ (w .through l a (o .over) (omega arith) (omega arith) (omega arith)) (f .through l (omega (arith, y .sets-few)) (omega (arith, y .entries-few)) b refl refl)))
 
--- A set of its own: it is merged into, and then finished with an expression at most for each set after it, and c besides; the stacks are cut back.
+-- A set of its own: it is merged into, and then finished with an expression at most for each set after it, and c
+-- besides; the stacks are cut back.
 pub adds-own-set : {A : Type 0} {ss : List MergingSet} {es : List MergingEntry} (e x c : ℕ) (k : NameKind) (p : Pointer) (q : SetId → Low (Unit {0})) (end : SetId → Low A)
     → NestedOnce (length ss) es
     → ((first : List MergingSet) (old : List MergingEntry) (s : SetId) → length first ≤ s → Merges first old s e x (q s))

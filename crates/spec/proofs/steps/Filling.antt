@@ -57,7 +57,8 @@ abbrev pub referencesIn : List Made → ℕ
 referencesIn es = sumBy (λ d. referring (d .expr)) es
 
 -- ---- steps that leave the stacks
--- what is in hand in the end, by its weight w, and the items made are at most what was in hand and u more; the References made at most v
+-- what is in hand in the end, by its weight w, and the items made are at most what was in hand and u more; the
+-- References made at most v
 pub record Filled {A : Type 0} (o : ℕ) (w : A → ℕ) (u v : ℕ) (st : State) (r : A × State) : Type 0 where
   pub entries : r .1 .entries ≡ st .entries
   pub sets : r .1 .sets ≡ st .sets

@@ -197,7 +197,8 @@ module _ (s : SetId) (key : Text) (p : Pointer) where
       }
 
 -- ---- a set of its own, on top of those that are being merged
--- THEOREM. What is merged into it and finished makes as many items as were gathered, entries and all, and leaves the sets around it as they were.
+-- THEOREM. What is merged into it and finished makes as many items as were gathered, entries and all, and leaves the
+-- sets around it as they were.
 pub fills-own-set : {A : Type 0} {w : A → ℕ} {u v : ℕ} (k : NameKind) (q : Pointer) (body : SetId → Low (Unit {0})) (fin : SetId → Low A)
     → ((t : SetId) → Gathers u v t (body t))
     → ((E : List MergingEntry) (t : SetId) (st : State) → st .entries ≡ E → Known st → (b : ℕ) × Filled 0 w (setItems E b t) 0 st (fin t st))

@@ -39,7 +39,8 @@ pub record Same (st after : State) : Type 0 where
   pub entries-same : after .entries ≡ st .entries
   pub grown : Grown (st .exprs) (after .exprs)
 
--- Where the stacks are ss and es, the step leaves them; and if X goes on after its expressions and H holds, what it gives weighs at most u.
+-- Where the stacks are ss and es, the step leaves them; and if X goes on after its expressions and H holds, what it
+-- gives weighs at most u.
 pub record Weighs {A : Type 0} (X : List Made) (ss : List MergingSet) (es : List MergingEntry) (H : Type 0) (val : A → ℕ) (u : ℕ) (p : Low A) : Type 0 where
   pub same : (st : State) → st .sets ≡ ss → st .entries ≡ es → Same st (p st .1)
   pub light : H → (st : State) → st .sets ≡ ss → st .entries ≡ es → Grown (p st .1 .exprs) X → val (p st .0) ≤ u

@@ -88,7 +88,8 @@ module _ (nodes : List Node) where
       let r = kids-places enter few n _ _ _ n h (node-kids nodes enter n h e) in
       (r .0, omega (arith, r .1, few-counted (nodeAt nodes n .kind)))
 
-  -- THEOREM. The nodes n to h of a subtree have at most three places for the first of them and four for each of the others.
+  -- THEOREM. The nodes n to h of a subtree have at most three places for the first of them and four for each of the
+  -- others.
   pub walk-places : (left n h : ℕ) → walkTo nodes left n ≡ met h → (n ≤ h) × (upTo placesAt (suc h) ≤ 3 + 4 * (h - n) + upTo placesAt n)
   unfolding walkTo
   walk-places zero n h e = node-places (λ k. stopped 6 n) (λ k m i. not-met i) n h e
