@@ -11,11 +11,11 @@ ghost use Rattle.requests.specs.Requests as requests;
 ghost use Rattle.requests.specs.Requests.{outcomeIn};
 ghost use Rattle.load.specs.Loads as loads;
 ghost use Rattle.load.specs.Loads.{judgedIn};
+use ask::ask_name;
+use ask::ask_reference;
+use change::change_name;
+use change::change_reference;
 use load::load;
-use requests::ask_name;
-use requests::ask_reference;
-use requests::change_name;
-use requests::change_reference;
 
 // Loads a sheet. The refusal's number is returned, 0 for none; a refusal leaves the store as it was.
 #[no_mangle]

@@ -1,7 +1,7 @@
 // Where everything lies in a store, and what its bytes say: docs/STORE.md as definitions.
 //
-// The crates layout, texts, intake, store, open_sets, kept, listing and soundness are the layer that knows offsets;
-// nobody above does.
+// The crates layout, texts, rows, intake, store, open_sets, kept, listing and soundness are the layer that knows
+// offsets; nobody above does.
 // This one has the decoding of any bytes (specs/), what a write leaves as it was (proofs/), and the
 // writes that the others share.
 mod rows;

@@ -26,7 +26,8 @@ use Rattle.module.specs.declared.pointer.Pointer.{Pointer}
 use Rattle.layout.specs.Nodes.{nodesOf}
 use Rattle.layout.specs.States.{stateOf, waitingOf}
 use Rattle.soundness.specs.Sound.{tagFits}
-use Rattle.store.specs.Codes.{exprWith, sortFor, exprMade}
+use Rattle.rows.specs.Decoded.{exprWith}
+use Rattle.store.specs.Codes.{sortFor, exprMade}
 use Rattle.store.specs.Work.{suits}
 use Rattle.keys.specs.AstUtils.{setKind}
 use Rattle.merge.specs.Room.{price, _⊕_, covers, oneExpr, oneSet, ownNode}

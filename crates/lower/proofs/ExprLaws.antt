@@ -24,7 +24,8 @@ use Rattle.module.specs.declared.expr.Expr.the-variants.{IfThenElse, BinOp, Una
 use Rattle.layout.specs.Nodes.{nodesOf}
 use Rattle.layout.specs.Texts.{textIn}
 use Rattle.layout.specs.States.{waitingOf}
-use Rattle.store.specs.Codes.{exprWith, holeMade}
+use Rattle.rows.specs.Decoded.{exprWith}
+use Rattle.store.specs.Codes.{holeMade}
 use Rattle.store.specs.Work.{Did, takeLone}
 use Rattle.merge.specs.Room.{price, _⊕_, covers, nothing, oneExpr, ownNode}
 use Rattle.merge.specs.Lowers.{Lowering}

@@ -33,7 +33,8 @@ use Rattle.layout.specs.Nodes.{nodesOf}
 use Rattle.layout.specs.States.{stateOf, waitingOf}
 use Rattle.layout.specs.Texts.{textIn}
 use Rattle.soundness.specs.Sound.{tagFits}
-use Rattle.store.specs.Codes.{exprWith, itemWith, lambdaSort, sortFor, exprMade, patternWith}
+use Rattle.rows.specs.Decoded.{exprWith, itemWith, patternWith}
+use Rattle.store.specs.Codes.{lambdaSort, sortFor, exprMade}
 use Rattle.store.specs.Work.{Did, suits, pushItem}
 use Rattle.keys.proofs.ItemLaws.{items-after-are}
 use Rattle.merge.specs.Room.{price, _⊕_, covers, nothing, oneExpr, oneItem, ownNode}

@@ -31,7 +31,8 @@ use Rattle.module.specs.declared.literal.Literal.the-variants as literals
 use Rattle.layout.specs.Nodes.{nodesOf}
 use Rattle.layout.specs.States.{stateOf, waitingOf}
 use Rattle.layout.specs.Texts.{textIn, maybeText}
-use Rattle.store.specs.Codes.{exprWith, ValidExpr, sortFor, exprMade, holeMade}
+use Rattle.rows.specs.Decoded.{exprWith, ValidExpr}
+use Rattle.store.specs.Codes.{sortFor, exprMade, holeMade}
 use Rattle.store.specs.Work.{Did, Takes, takeLone, putName, nameWith}
 use Rattle.keys.specs.AstUtils.{identName}
 use Rattle.keys.specs.Literals.{literalHeld, allocLiteral, LiteralRead}

@@ -29,7 +29,8 @@ use Rattle.layout.specs.Nodes.{nodesOf}
 use Rattle.layout.specs.States.{stateOf, waitingOf}
 use Rattle.layout.specs.Texts.{textIn, maybeText}
 use Rattle.soundness.specs.Sound.{tagFits}
-use Rattle.store.specs.Codes.{exprWith, itemWith, selectSort, sortFor, exprMade}
+use Rattle.rows.specs.Decoded.{exprWith, itemWith}
+use Rattle.store.specs.Codes.{selectSort, sortFor, exprMade}
 use Rattle.store.specs.Work.{Did, Takes, suits, pushItem}
 use Rattle.keys.specs.AstUtils.{Interpolated}
 use Rattle.module.specs.declared.ids.MaybeText.{MaybeText}

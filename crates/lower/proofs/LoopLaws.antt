@@ -26,7 +26,8 @@ use Rattle.layout.specs.Texts.{textIn}
 use Rattle.layout.specs.Exprs.{child, children}
 use Rattle.layout.specs.Nodes.{nodesOf}
 use Rattle.layout.specs.States.{stateOf, waitingOf}
-use Rattle.store.specs.Codes.{exprWith, sortFor, exprMade, itemWith}
+use Rattle.rows.specs.Decoded.{exprWith, itemWith}
+use Rattle.store.specs.Codes.{sortFor, exprMade}
 use Rattle.soundness.specs.Sound.{tagFits}
 use Rattle.store.specs.Work.{Did, Takes, pushItem}
 use Rattle.keys.specs.Items.{itemsFrom}

@@ -29,8 +29,7 @@ use Rattle.layout.proofs.WriteLaws.{still-then}
 use Rattle.spec.proofs.sound.Lowered.{accepted-module}
 use Rattle.soundness.proofs.FitLaws.{coded-fits}
 use Rattle.store.proofs.CodedLaws.{fine-kept}
-use Rattle.store.specs.Work.{Work, workOf, noWork, lowering, Fine}
-use Rattle.store.specs.Readers.{SetEntry}
+use Rattle.store.specs.Work.{Work, workOf, noWork, lowering, Fine, SetEntry}
 use Rattle.open_sets.proofs.RankLaws.{in-order-none}
 use Rattle.merge.specs.Room.{Resource, exprs, items, names, diagnostics, sets, entries, level, perNode, price, ownNode}
 use Rattle.merge.specs.Lowers.{Lowerable, Setting, Lowered, Floats}

@@ -13,7 +13,7 @@ use Rattle.spec.specs.Merge.{newNested, finishExpr, mergeNestedAttrValue}
 use Rattle.spec.specs.Lower.{lowerExpr, mergeBindings}
 use Rattle.layout.specs.Exprs.{Item, child, text, field}
 use Rattle.module.specs.declared.expr.Expr as code
-use Rattle.store.specs.Codes.{exprWith, ValidExpr}
+use Rattle.rows.specs.Decoded.{exprWith, ValidExpr}
 use Rattle.merge.specs.Room.{Price, oneExpr, ownNode}
 use Rattle.merge.specs.Lowers.{Lowering}
 use Rattle.lower.specs.Sizes.{below, heft}

@@ -11,7 +11,7 @@ ghost use Rattle.module.specs.Ids.{nodeOf, nameOf, pointerOf};
 ghost use Rattle.module.specs.Kinds.{kindOf};
 ghost use Rattle.layout.specs.Layout.{Long};
 ghost use Rattle.layout.specs.Texts.{textIn};
-ghost use Rattle.store.specs.Codes.{exprWith, ValidExpr};
+ghost use Rattle.rows.specs.Decoded.{exprWith, ValidExpr};
 ghost use Rattle.keys.specs.Literals.{literalHeld, allocLiteral};
 ghost use Rattle.merge.specs.Room.{nothing, oneExpr};
 ghost use Rattle.merge.specs.Lowers.{Lowering};

@@ -20,7 +20,8 @@ use Rattle.layout.specs.Exprs.{Item, static}
 use Rattle.layout.specs.States.{setsOf, entriesOf, orderOf, stateOf, waitingOf, usedOf}
 use Rattle.layout.proofs.Frames.{wrote-none, wrote-then}
 use Rattle.layout.proofs.WriteLaws.{still-then}
-use Rattle.store.specs.Codes.{exprWith, exprMade, holeMade, sortFor}
+use Rattle.rows.specs.Decoded.{exprWith}
+use Rattle.store.specs.Codes.{exprMade, holeMade, sortFor}
 use Rattle.soundness.specs.Sound.{tagFits}
 use Rattle.store.specs.Work.{lowering, Did, Takes, takeLone, pushItem}
 use Rattle.open_sets.specs.Ranks.{InOrder, segment}

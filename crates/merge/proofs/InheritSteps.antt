@@ -19,7 +19,8 @@ use Rattle.module.specs.Literals.{literalOf}
 use Rattle.layout.specs.Texts.{textIn}
 use Rattle.layout.specs.Exprs.{child, children}
 use Rattle.layout.specs.States.{waitingOf}
-use Rattle.store.specs.Codes.{exprWith, selectSort, sortFor, exprMade}
+use Rattle.rows.specs.Decoded.{exprWith}
+use Rattle.store.specs.Codes.{selectSort, sortFor, exprMade}
 use Rattle.soundness.specs.Sound.{tagFits}
 use Rattle.store.specs.Work.{Did, Takes, pushItem, tagFor, suits}
 use Rattle.merge.specs.Room.{price, nothing, _⊕_, covers, oneExpr, oneItem}

@@ -31,9 +31,9 @@ use open_sets::open_set;
 use open_sets::set_name_kind;
 use open_sets::set_nested;
 use open_sets::set_value;
+use rows::name_pointer;
 use store::add_duplicate;
 use store::alloc_name;
-use store::name_pointer;
 
 // One more of the set's inherit_froms.
 pub fn add_source(store: &mut [u8], s: SetId, e: ExprId)

@@ -1,13 +1,10 @@
 -- docs/RULES.md, "The condition of a store": "A store as a load .. left it is never 22 or 23." Of the bytes. Assumes
 -- nothing.
 use mathlib.Core.Path.{_≡_, refl, sym, ap, _∙_}
-use mathlib.Core.Bool.{true}
 use mathlib.Core.List.{List}
 use Prim.Native.Nat.{ℕ, _≤_, _<_}
 use native.Mathlib.Omega.{arith}
 use lib.ListN.{length}
-use lib.Dec.{ltb, eqb}
-use borrow.Author.Tests.{le-ltb, ne-eqb}
 use Rattle.words.specs.Words.{word}
 use Rattle.spec.specs.Sheet.{Node, accepted}
 use Rattle.spec.specs.Tree.{judge}
@@ -15,7 +12,7 @@ use Rattle.spec.specs.Lower.{lowerModule, moduleOf}
 use Rattle.spec.specs.Calls.{fit}
 use Rattle.spec.specs.Kept.{keptOf, loaded}
 use Rattle.spec.proofs.sound.Sound.{lowered-sound}
-use Rattle.layout.specs.Layout.{loadedTextLimit, exprCount, textsPlace, storeBytes, Long}
+use Rattle.layout.specs.Layout.{loadedTextLimit, exprCount, textsPlace, Long}
 use Rattle.layout.specs.Rows.{cap, rowsTo}
 use Rattle.layout.specs.Regions.{keeping}
 use Rattle.layout.specs.Nodes.{nodesOf}
@@ -24,15 +21,11 @@ use Rattle.layout.specs.States.{exprsOf, stateOf, moduleIn}
 use Rattle.layout.specs.Keeps.{keptIn}
 use Rattle.layout.proofs.RowLaws.{length-rows}
 use Rattle.layout.proofs.Frames.{number-kept}
-use Rattle.soundness.specs.Sound.{sound, conditionOf}
+use Rattle.soundness.specs.Sound.{conditionOf}
 use Rattle.soundness.specs.Coded.{ModuleFits}
+use Rattle.soundness.proofs.ConditionLaws.{fit-of}
 use Rattle.scopes.proofs.WholeLaws.{accepted-walkable}
 use Rattle.nameres.specs.Loaded.{Keepable, KeepsAll}
-
--- ---- a store that is long enough, sound and not empty
-pub fit-of : (t : List ℕ) → Long t → sound t ≡ true → (word t exprCount ≡ 0 → ⊥) → conditionOf t ≡ fit
-unfolding conditionOf
-fit-of t long is-sound some = rw (le-ltb (length t) storeBytes long, is-sound, ne-eqb (word t exprCount) 0 some)
 
 -- ---- a load
 pub accepted-keepable : (sheet : List ℕ) (nodes : List Node) → judge sheet ≡ accepted nodes → Keepable (lowerModule nodes)

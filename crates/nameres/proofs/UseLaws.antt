@@ -18,7 +18,7 @@ use Rattle.layout.specs.Exprs.{sortOf}
 use Rattle.layout.specs.States.{moduleIn}
 use Rattle.layout.specs.Keeps.{answerIn, keptIn}
 use Rattle.layout.proofs.RowLaws.{getD-rows, getD-past}
-use Rattle.store.proofs.ReferenceLaws.{text-past, text-other, text-there}
+use Rattle.rows.proofs.ReferenceLaws.{text-past, text-other, text-there}
 use Rattle.kept.specs.Answers.{insteadOf}
 
 answers-past : (s : List ℕ) (e : ℕ) → cap (word s exprCount) exprLimit ≤ e → keptAnswer (keptIn s) e ≡ none

@@ -18,8 +18,8 @@ use module::ExprId;
 use module::MaybeText;
 use module::TextId;
 use resolve::resolve_name;
-use store::expr_count;
-use store::reference_text;
+use rows::expr_count;
+use rows::reference_text;
 use texts::texts_equal;
 
 // The answer of one expression. What is no Reference has none, and its row says so.

@@ -4,12 +4,12 @@ ghost use Prim.Native.Nat.{_+_, _≤_};
 ghost use Rattle.words.specs.Words.{word};
 use crate::lines::print_line;
 use crate::lines::print_list;
+use ask::ask_reference;
 use kept::scope_count;
 use layout::tables::STORE_BYTES;
-use requests::ask_reference;
-use store::diagnostic_count;
-use store::expr_count;
-use store::name_count;
+use rows::diagnostic_count;
+use rows::expr_count;
+use rows::name_count;
 use words::get32;
 
 pub fn print_refusal(number: u32, place: u32) {

@@ -2,7 +2,7 @@
 // (docs/RULES.md, "Followed examples"), a field a line.
 //
 // No contract can say what a program writes, and nothing here returns anything or writes to what is lent. What the
-// lines say comes from `requests::ask_reference`, the function behind the exported call, so that they are what a host
+// lines say comes from `ask::ask_reference`, the function behind the exported call, so that they are what a host
 // is told.
 mod answers;
 mod lines;

@@ -5,8 +5,10 @@ use mathlib.Core.List.{List}
 use Prim.Native.Nat.{ℕ, _≤_, _<_}
 use native.Mathlib.Omega.{arith}
 use lib.ListN.{length}
-use borrow.Author.Tests.{le-ltb, lt-ltb}
+use lib.Dec.{ltb}
+use borrow.Author.Tests.{ltb-true, ltb-false, le-ltb, lt-ltb, ne-eqb}
 use Rattle.words.specs.Equality.{equalb}
+use Rattle.spec.specs.Basics.{if_then_else_}
 use Rattle.spec.specs.Lower.{moduleOf}
 use Rattle.spec.specs.Calls.{Condition, fit, Call, Outcome, refusal, replyBytes, check, replyOf, answerCall, outcome, isAccepted, oldText, newText}
 use Rattle.spec.specs.Kept.{keptAnswer, keptReferences, keptOutcome, keptWith, keptAfter}
@@ -19,11 +21,11 @@ use Rattle.soundness.specs.Sound.{conditionOf}
 use Rattle.soundness.specs.Verdict.{verdict, numberOf}
 use Rattle.replies.specs.Replies.{returned, listOf, replyAfter, bufferAfter, Told}
 use Rattle.replies.proofs.ReplyLaws.{reply-short}
-use Rattle.requests.specs.Requests.{outcomeIn, Asked, Leaves, Changed}
+use Rattle.requests.specs.Requests.{outcomeIn, firstRefusal, Begun, Asked, Leaves, Changed}
 
 -- ---- 21, 22 and 23
 -- the reply is too short, whatever the store is
-pub reply-refused : (s : List ℕ) (c : Call) → replyOf c < replyBytes → outcomeIn s c ≡ refusal 21 0
+reply-refused : (s : List ℕ) (c : Call) → replyOf c < replyBytes → outcomeIn s c ≡ refusal 21 0
 unfolding outcomeIn keptOutcome outcome check
 reply-refused s c h = rw (lt-ltb (replyOf c) replyBytes h, or-true (conditionOf s .short))
 
@@ -36,7 +38,7 @@ first-checks false false true n rest h z = ap (λ (k : ℕ). refusal k 0) (sym h
 first-checks false false false n rest h z = absurd (z h)
 
 -- the store is not fit
-pub state-refused : (s : List ℕ) (c : Call) (n : ℕ) → replyBytes ≤ replyOf c → n ≡ numberOf (verdict (conditionOf s)) → (n ≡ 0 → ⊥) → outcomeIn s c ≡ refusal n 0
+state-refused : (s : List ℕ) (c : Call) (n : ℕ) → replyBytes ≤ replyOf c → n ≡ numberOf (verdict (conditionOf s)) → (n ≡ 0 → ⊥) → outcomeIn s c ≡ refusal n 0
 unfolding outcomeIn keptOutcome outcome
 state-refused s c n h e z =
     rw (le-ltb (replyOf c) replyBytes h, or-false (conditionOf s .short))
@@ -51,7 +53,7 @@ all-well false true d h = absurd (omega (arith, h))
 all-well false false true h = absurd (omega (arith, h))
 all-well false false false h = refl
 
-pub state-fit : (s : List ℕ) (n : ℕ) → n ≡ numberOf (verdict (conditionOf s)) → n ≡ 0 → conditionOf s ≡ fit
+state-fit : (s : List ℕ) (n : ℕ) → n ≡ numberOf (verdict (conditionOf s)) → n ≡ 0 → conditionOf s ≡ fit
 state-fit s n e z = all-well (conditionOf s .short) (conditionOf s .unsound) (conditionOf s .unloaded) (sym z ∙ e)
 
 -- what a fit store is left to be asked
@@ -77,19 +79,6 @@ pub refused-asked : (c : Call) (s b p : List ℕ) (r : ℕ) (b′ p′ : List �
 unfolding bufferAfter listOf setAll
 refused-asked c s b p r b′ p′ k l e t w = told-asked c s b p r b′ p′ (refusal k l) e t w
 
-not-told : (c : Call) (s p : List ℕ) → replyOf c ≡ length p → length p < replyBytes → Told (outcomeIn s c) p 21 p
-unfolding returned
-not-told c s p n h = record { number = sym (ap returned (reply-refused s c (omega (arith, n, h)))); reply = reply-short (outcomeIn s c) p h }
-
-pub short-asked : (c : Call) (s b p : List ℕ) → replyOf c ≡ length p → length p < replyBytes → Asked c s b p 21 b p
-short-asked c s b p n h =
-    let e = reply-refused s c (omega (arith, n, h)) in
-    refused-asked c s b p 21 b p 21 0 e (rw e at (not-told c s p n h)) refl
-
-pub state-asked : (c : Call) (s b p : List ℕ) (r : ℕ) (p′ : List ℕ) (n : ℕ) → replyOf c ≡ length p → replyBytes ≤ length p → n ≡ numberOf (verdict (conditionOf s)) → (n ≡ 0 → ⊥)
-    → Told (refusal n 0) p r p′ → Asked c s b p r b p′
-state-asked c s b p r p′ n m h e z t = refused-asked c s b p r b p′ n 0 (state-refused s c n (omega (arith, m, h)) e z) t refl
-
 -- ---- a call that changes
 -- a store that is left alone
 module _ (c : Call) (s : List ℕ) where
@@ -112,11 +101,56 @@ pub refused-changed : (c : Call) (s p : List ℕ) (r : ℕ) (p′ : List ℕ) (k
 unfolding isAccepted
 refused-changed c s p r p′ k l e t = told-changed c s p r s p′ (refusal k l) e t (refused-leaves c s (ap isAccepted e))
 
-pub short-changed : (c : Call) (s p : List ℕ) → replyOf c ≡ length p → length p < replyBytes → Changed c s p 21 s p
-short-changed c s p n h =
-    let e = reply-refused s c (omega (arith, n, h)) in
-    refused-changed c s p 21 p 21 0 e (rw e at (not-told c s p n h))
+-- ---- the first checks, as the code makes them
+pub begun-short : (s p : List ℕ) → length p < replyBytes → Begun s p 21 p
+unfolding firstRefusal
+begun-short s p h = record { number = rw (lt-ltb (length p) replyBytes h); reply = reply-short (refusal 21 0) p h }
 
-pub state-changed : (c : Call) (s p : List ℕ) (r : ℕ) (p′ : List ℕ) (n : ℕ) → replyOf c ≡ length p → replyBytes ≤ length p → n ≡ numberOf (verdict (conditionOf s)) → (n ≡ 0 → ⊥)
-    → Told (refusal n 0) p r p′ → Changed c s p r s p′
-state-changed c s p r p′ n m h e z t = refused-changed c s p r p′ n 0 (state-refused s c n (omega (arith, m, h)) e z) t
+module _ (s p : List ℕ) (long : replyBytes ≤ length p) (n : ℕ) (says : n ≡ numberOf (verdict (conditionOf s))) where
+  first-is : n ≡ firstRefusal s (length p)
+  unfolding firstRefusal
+  first-is = rw (le-ltb (length p) replyBytes long) says
+
+  pub begun-fit : n ≡ 0 → Begun s p 0 p
+  begun-fit z = record { number = sym z ∙ first-is; reply = refl }
+
+  pub begun-refused : (n ≡ 0 → ⊥) → (r : ℕ) (p′ : List ℕ) → Told (refusal n 0) p r p′ → Begun s p r p′
+  unfolding returned
+  begun-refused refuses r p′ t = rw (t .number) (record { number = first-is; reply = rw (ne-eqb n 0 refuses) (t .reply) })
+
+-- ---- and what a call goes on from, or comes to
+module _ {s p : List ℕ} {r : ℕ} {p′ : List ℕ} (begun : Begun s p r p′) where
+  module _ (passed : r ≡ 0) where
+    fits-and-long : (conditionOf s ≡ fit) × (replyBytes ≤ length p)
+    unfolding firstRefusal
+    fits-and-long = by-length (ltb (length p) replyBytes) refl (sym passed ∙ begun .number)
+      where
+        by-length : (b : Bool) → ltb (length p) replyBytes ≡ b → 0 ≡ (if b then 21 else numberOf (verdict (conditionOf s))) → (conditionOf s ≡ fit) × (replyBytes ≤ length p)
+        by-length true e h = absurd (omega (arith, h))
+        by-length false e h = (state-fit s 0 h refl, ltb-false (length p) replyBytes e)
+
+    pub goes-on : p′ ≡ p
+    goes-on = begun .reply ∙ rw passed
+
+    -- what the rest of a call is promised
+    pub rest-fits : (conditionOf s ≡ fit) × (replyBytes ≤ length p′)
+    rest-fits = rw goes-on fits-and-long
+
+  module _ (refuses : r ≡ 0 → ⊥) (c : Call) (lent : replyOf c ≡ length p) where
+    refused-first : outcomeIn s c ≡ refusal r 0
+    unfolding firstRefusal
+    refused-first = by-length (ltb (length p) replyBytes) refl (begun .number)
+      where
+        by-length : (b : Bool) → ltb (length p) replyBytes ≡ b → r ≡ (if b then 21 else numberOf (verdict (conditionOf s))) → outcomeIn s c ≡ refusal r 0
+        by-length true e h = reply-refused s c (omega (arith, lent, ltb-true (length p) replyBytes e)) ∙ ap (λ (k : ℕ). refusal k 0) (sym h)
+        by-length false e h = state-refused s c r (omega (arith, lent, ltb-false (length p) replyBytes e)) h refuses
+
+    refusal-told : Told (refusal r 0) p r p′
+    unfolding returned
+    refusal-told = record { number = refl; reply = begun .reply ∙ rw (ne-eqb r 0 refuses) }
+
+    pub stopped-asked : (b : List ℕ) → Asked c s b p r b p′
+    stopped-asked b = refused-asked c s b p r b p′ r 0 refused-first refusal-told refl
+
+    pub stopped-changed : Changed c s p r s p′
+    stopped-changed = refused-changed c s p r p′ r 0 refused-first refusal-told

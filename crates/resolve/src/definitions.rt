@@ -15,7 +15,7 @@ use kept::entered_count;
 use module::MaybeName;
 use module::ScopeId;
 use module::TextId;
-use store::name_text;
+use rows::name_text;
 use texts::texts_equal;
 
 // The i-th name entered in a scope, where it has the text t.

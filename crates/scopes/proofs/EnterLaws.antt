@@ -14,8 +14,8 @@ use Rattle.layout.specs.Exprs.{Item, child}
 use Rattle.layout.specs.States.{moduleIn}
 use Rattle.layout.proofs.Frames.{wrote-none, wrote-then}
 use Rattle.layout.proofs.WriteLaws.{still-then}
-use Rattle.store.specs.Codes.{patternWith}
-use Rattle.store.specs.Readers.{itemsAtExpr, itemAtExpr}
+use Rattle.rows.specs.Decoded.{patternWith}
+use Rattle.rows.specs.Readers.{itemsAtExpr, itemAtExpr}
 use Rattle.kept.specs.Walks.{walking, waitingNames, Waits}
 use Rattle.scopes.specs.declared.enters.Names.{Names}
 use Rattle.scopes.specs.Entering.{entered, Enters}

@@ -29,9 +29,9 @@ use Rattle.layout.specs.Texts.{textIn}
 use Rattle.layout.specs.Exprs.{children, bindings}
 use Rattle.layout.specs.States.{exprsOf, stateOf, moduleIn}
 use Rattle.layout.proofs.RowLaws.{cap-lim}
-use Rattle.store.specs.Codes.{patternWith, exprWith}
-use Rattle.store.specs.Readers.{itemsAtExpr}
-use Rattle.store.proofs.ExprLaws.{length-exprs}
+use Rattle.rows.specs.Decoded.{patternWith, exprWith}
+use Rattle.rows.specs.Readers.{itemsAtExpr}
+use Rattle.rows.proofs.ReferenceLaws.{length-exprs}
 use Rattle.kept.specs.Walks.{tryOpen, tryPlace, Walked}
 use Rattle.scopes.specs.declared.picks.Pass.the-variants.{Children}
 use Rattle.scopes.specs.Picking.{picked}

@@ -20,8 +20,8 @@ use Rattle.layout.specs.Exprs.{Item, child, text, field, static, dynamic, child
 use Rattle.layout.specs.States.{exprsOf}
 use Rattle.layout.proofs.RowLaws.{cap-lim}
 use Rattle.layout.proofs.Frames.{same-on, exprs-kept, own-items-same}
-use Rattle.store.specs.Readers.{itemsAtExpr, itemAtExpr}
-use Rattle.store.proofs.ExprLaws.{length-exprs}
+use Rattle.rows.specs.Readers.{itemsAtExpr, itemAtExpr}
+use Rattle.rows.proofs.ReferenceLaws.{length-exprs}
 use Rattle.kept.specs.Walks.{walking}
 use Rattle.scopes.specs.declared.picks.Pass.{Pass}
 use Rattle.scopes.specs.declared.picks.Pass.the-variants.{Children, Defaults, Inherited, Values, Dynamics}

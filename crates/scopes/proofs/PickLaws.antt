@@ -7,7 +7,7 @@ use lib.ListN.{length, take, getD}
 use lib.Seq.{take-all}
 use Rattle.spec.specs.Basics.{ExprId, ScopeId}
 use Rattle.layout.specs.Exprs.{Item, child}
-use Rattle.store.specs.Readers.{itemsAtExpr, itemAtExpr}
+use Rattle.rows.specs.Readers.{itemsAtExpr, itemAtExpr}
 use Rattle.scopes.specs.declared.picks.Pass.{Pass}
 use Rattle.scopes.specs.Picking.{picked}
 use Rattle.scopes.specs.Walking.{Follows}

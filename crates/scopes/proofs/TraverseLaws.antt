@@ -12,8 +12,8 @@ use Rattle.layout.specs.Changes.{Wrote, Still}
 use Rattle.layout.specs.Exprs.{Item, children, statics, bindings}
 use Rattle.layout.proofs.Frames.{wrote-then}
 use Rattle.layout.proofs.WriteLaws.{still-then}
-use Rattle.store.specs.Codes.{patternWith}
-use Rattle.store.specs.Readers.{itemsAtExpr}
+use Rattle.rows.specs.Decoded.{patternWith}
+use Rattle.rows.specs.Readers.{itemsAtExpr}
 use Rattle.kept.specs.Walks.{walking}
 use Rattle.scopes.specs.declared.picks.Pass.the-variants.{Children, Inherited, Values, Dynamics}
 use Rattle.scopes.specs.Picking.{picked}

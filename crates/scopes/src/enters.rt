@@ -8,8 +8,8 @@ ghost use Rattle.module.specs.Kinds.{kindOf};
 ghost use Rattle.layout.specs.Layout.{Long};
 ghost use Rattle.layout.specs.Exprs.{statics};
 ghost use Rattle.layout.specs.States.{moduleIn};
-ghost use Rattle.store.specs.Codes.{patternWith};
-ghost use Rattle.store.specs.Readers.{itemsAtExpr, itemAtExpr};
+ghost use Rattle.rows.specs.Decoded.{patternWith};
+ghost use Rattle.rows.specs.Readers.{itemsAtExpr, itemAtExpr};
 ghost use Rattle.kept.specs.Walks.{Walked, waitingNames};
 ghost use Rattle.scopes.specs.declared.enters.Names.the-variants as names-of;
 ghost use Rattle.scopes.specs.Walking.{Walks};
@@ -22,9 +22,9 @@ use module::MaybeName;
 use module::NameKind;
 use module::Pattern;
 use module::ScopeId;
-use store::item_count;
-use store::name_kind_of;
-use store::read_item;
+use rows::item_count;
+use rows::name_kind_of;
+use rows::read_item;
 
 // Which names of its items an expression enters.
 pub enum Names {

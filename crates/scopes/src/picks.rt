@@ -5,14 +5,14 @@ ghost use mathlib.Core.List.{[], _∷_};
 ghost use Rattle.spec.specs.Scopes.{oneOrNone};
 ghost use Rattle.module.specs.Ids.{exprOf};
 ghost use Rattle.layout.specs.Layout.{Long};
-ghost use Rattle.store.specs.Readers.{itemAtExpr};
+ghost use Rattle.rows.specs.Readers.{itemAtExpr};
 ghost use Rattle.scopes.specs.declared.picks.Pass.the-variants as pass-of;
 ghost use Rattle.scopes.specs.Picking.{picksOf, picked};
 use module::BindingValue;
 use module::ExprId;
 use module::Item;
 use module::MaybeExpr;
-use store::read_item;
+use rows::read_item;
 
 pub enum Pass {
     // Items of a list, attributes of a path, interpolated parts, sources of inherits.

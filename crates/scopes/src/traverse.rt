@@ -7,8 +7,8 @@ ghost use Rattle.spec.specs.Scopes.{oneOrNone, fieldDefaults, patFields, traver
 ghost use Rattle.module.specs.Ids.{exprOf, nameOf};
 ghost use Rattle.layout.specs.Layout.{Long};
 ghost use Rattle.layout.specs.Exprs.{children, bindings};
-ghost use Rattle.store.specs.Codes.{patternWith};
-ghost use Rattle.store.specs.Readers.{itemsAtExpr};
+ghost use Rattle.rows.specs.Decoded.{patternWith};
+ghost use Rattle.rows.specs.Readers.{itemsAtExpr};
 ghost use Rattle.scopes.specs.Picking.{picksOf, picked};
 ghost use Rattle.scopes.specs.Walking.{below, Walks, Follows};
 use crate::enters::open_for_bindings;
@@ -25,8 +25,8 @@ use module::MaybeExpr;
 use module::MaybeName;
 use module::Pattern;
 use module::ScopeId;
-use store::item_count;
-use store::read_expr;
+use rows::item_count;
+use rows::read_expr;
 
 // The expression e stands in the scope, and so do its children, but for those in a scope that it opens.
 // A With opens one for its body alone; an Assert's body is walked before its condition.

@@ -5,7 +5,7 @@ use crate::traverse::traverse_expr;
 use kept::clear_scopes;
 use kept::open_root;
 use module::ScopeId;
-use store::entry;
+use rows::entry;
 
 // ModuleScopes::new: from the entry, in the root scope, the scope 0.
 pub fn compute_scopes(store: &mut [u8])

@@ -10,3 +10,4 @@ pub mod ItemLaws
 pub mod ItemSortLaws
 pub mod FitLaws
 pub mod FrameLaws
+pub mod ConditionLaws

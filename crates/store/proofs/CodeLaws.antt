@@ -13,8 +13,9 @@ use lib.IntN.{ℤ}
 use mir.Syntax.{w64}
 use mir.Val.{toZ, ofZ}
 use Rattle.module.proofs.LiteralLaws.{unsigned-in, not-negative-in, integer-back}
-use Rattle.store.specs.declared.codes.Row.{Row}
-use Rattle.store.specs.Codes.{exprWith, literalSort, sortFor, ranged, Says}
+use Rattle.rows.specs.declared.row.Row.{Row}
+use Rattle.rows.specs.Decoded.{exprWith}
+use Rattle.store.specs.Codes.{literalSort, sortFor, ranged, Says}
 use Rattle.layout.specs.Exprs.{exprOf, wide, floatOr, integerOr}
 
 pub float-says : (l : Literal) (r : Row) (x : _) → l ≡ Float x → Valid l → r .sort ≡ 4 → r .a * 4294967296 + r .b ≡ floatBits x → Says r (expr.Literal l)

@@ -22,8 +22,8 @@ use Rattle.spec.specs.Steps.{Step}
 use Rattle.spec.specs.State.{State, state, newMade}
 use Rattle.module.specs.Ids.{pointerOf}
 use Rattle.module.specs.declared.pointer.Pointer as code
-use Rattle.store.specs.declared.codes.Row.{Row}
-use Rattle.store.specs.declared.codes.ItemRow.{ItemRow}
+use Rattle.rows.specs.declared.row.Row.{Row}
+use Rattle.rows.specs.declared.row.ItemRow.{ItemRow}
 use Rattle.layout.specs.Layout.{exprLimit, itemLimit, waitingLimit, exprRow, pointerRow, itemRow, exprCount, waitingCount, exprsAt, exprPointersAt, itemsAt, namesAt, waitingAt, setsAt, Long}
 use Rattle.layout.specs.Rows.{cap, rowsTo, rowsFrom, setAll}
 use Rattle.layout.specs.Changes.{Range, Outside, Wrote, Still}
@@ -33,6 +33,7 @@ use Rattle.layout.specs.States.{exprsOf, namesOf, diagnosticsOf, lostOf, setsOf
 use Rattle.module.specs.declared.expr.Expr.{Expr}
 use Rattle.store.specs.Codes.{rowMade, exprMade, holeMade, sortFor, Says, HeldRow}
 use Rattle.store.specs.Work.{Work, workOf, takeRow, takeLone, pushItem, lowering, tagFor, suits, waitCoded, Fine, Did, DidWhere, Takes, Took, PutRow}
+use Rattle.rows.proofs.ReferenceLaws.{length-exprs}
 use Rattle.soundness.specs.Sound.{tagFits}
 use Rattle.soundness.specs.Coded.{fieldsCoded, rowCoded, partCoded, itemCoded}
 use Rattle.soundness.proofs.NumberLaws.{by-tag}
@@ -57,10 +58,6 @@ from-some s base n e h = (rw (length-drop base (waitingOf s)) (rw e), omega (ari
 
 pub from-none : (s : List ℕ) (base n : ℕ) → n ≡ length (waitingOf s) → n ≤ base → (0 ≡ length (drop base (waitingOf s))) × (0 ≤ waitingLimit)
 from-none s base n e h = (rw (length-drop base (waitingOf s)) (omega arith), omega arith)
-
-pub length-exprs : (s : List ℕ) → length (exprsOf s) ≡ cap (word s exprCount) exprLimit
-unfolding exprsOf
-length-exprs s = length-rows (madeIn s) (cap (word s exprCount) exprLimit)
 
 -- ---- items that are put in use
 -- a row that was moved

@@ -10,8 +10,8 @@ use Rattle.layout.specs.Texts.{textIn}
 use Rattle.layout.specs.Exprs.{Item, itemOf, exprOf}
 use Rattle.texts.specs.Fits.{textFits, Held}
 use Rattle.soundness.specs.Coded.{fieldsCoded, partCoded}
-use Rattle.store.specs.declared.codes.Row.{Row}
-use Rattle.store.specs.declared.codes.ItemRow.{ItemRow}
+use Rattle.rows.specs.declared.row.Row.{Row}
+use Rattle.rows.specs.declared.row.ItemRow.{ItemRow}
 use Rattle.store.specs.Codes.{hasText, ranged, HeldRow, HeldItem}
 
 -- ---- sorts

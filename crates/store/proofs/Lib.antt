@@ -4,7 +4,5 @@ pub mod CodedLaws
 pub mod ExprLaws
 pub mod NameLaws
 pub mod ClearLaws
-pub mod ReadLaws
-pub mod SourceMapLaws
-pub mod ReferenceLaws
+pub mod EntryLaws
 pub mod TextChangeLaws

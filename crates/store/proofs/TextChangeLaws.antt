@@ -27,7 +27,7 @@ use Rattle.layout.proofs.RowLaws.{length-rows, getD-rows, rows-put, cap-lim}
 use Rattle.layout.proofs.Frames.{Same, clear-of, number-kept, wrote-none, text-still, pointer-same, made-same, own-items-same, exprs-kept, names-kept, diagnostics-kept, lost-kept}
 use Rattle.layout.proofs.WriteLaws.{still-setWord}
 use Rattle.store.specs.TextChanges.{Renamed, whereText, setIfReference, Reworded}
-use Rattle.store.proofs.ReferenceLaws.{made-at, reference-made, text-past, text-other}
+use Rattle.rows.proofs.ReferenceLaws.{made-at, reference-made, text-past, text-other}
 
 -- how many names there are
 pub names-cap : (s : List ℕ) (n : ℕ) → n ≡ length (namesOf s) → n ≡ cap (word s nameCount) nameLimit

@@ -1,4 +1,3 @@
 pub mod Codes
 pub mod Work
-pub mod Readers
 pub mod TextChanges

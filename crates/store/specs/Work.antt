@@ -10,12 +10,13 @@ use Rattle.spec.specs.Basics.{Text, ExprId, NameId, if_then_else_}
 use Rattle.spec.specs.Module.{Pointer, Made, NameKind, Name, DuplicateKey}
 use Rattle.spec.specs.Steps.{Step}
 use Rattle.spec.specs.State.{State, state, empty, newMade, addDuplicate}
-use Rattle.store.specs.declared.codes.Row.{Row}
+use Rattle.spec.specs.Lower.{moduleOf}
+use Rattle.rows.specs.declared.row.Row.{Row}
 use Rattle.layout.specs.Layout.{exprLimit, itemLimit, nameLimit, diagnosticLimit, waitingLimit, exprRow, pointerRow, itemRow, diagnosticRow, exprCount, nameCount, diagnosticCount, lostCount, entryPlace, scopeCount, spentPlace, textsPlace, waitingCount, setCount, entryCount, exprsAt, exprPointersAt, itemsAt, diagnosticsAt, lostAt, usesAt, scopesAt, firstsAt, waitingAt, sheetAt}
 use Rattle.layout.specs.Rows.{cap}
 use Rattle.layout.specs.Changes.{Range, Wrote, Still}
 use Rattle.layout.specs.Exprs.{Item, child, text, field, static, dynamic, itemAt, itemIn, firstItem, sortOf, pointerAt}
-use Rattle.layout.specs.States.{stateOf, waitingOf, usedOf, orderOf}
+use Rattle.layout.specs.States.{stateOf, moduleIn, waitingOf, usedOf, orderOf}
 use Rattle.soundness.specs.Sound.{tagFits}
 use Rattle.soundness.specs.Coded.{partCoded, Coded}
 
@@ -151,6 +152,13 @@ pub record PutLost (n : ℕ) (p : Pointer) (s t : List ℕ) : Type 0 where
   pub still : Still s t
   pub count : word t lostCount ≡ n + 1
   pub is : pointerAt t (lostAt + pointerRow * n) ≡ p
+
+-- ---- the entry
+-- the entry is e, and all else is as it was
+pub record SetEntry (e : ExprId) (s t : List ℕ) : Type 0 where
+  pub wrote : Wrote ((entryPlace, entryPlace + 4) ∷ []) s t
+  pub still : Still s t
+  pub entry : moduleIn t ≡ moduleOf e (stateOf s)
 
 -- ---- a store with nothing in it
 unfoldable pub noWork : Work

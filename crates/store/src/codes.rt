@@ -1,7 +1,8 @@
 // How an expression and an item lie in their rows: docs/STORE.md's sorts and tags.
 ghost use mathlib.Core.Path.{_≡_};
 ghost use Prim.Native.Nat.{_≤_, _*_, _+_};
-ghost use Rattle.store.specs.Codes.{ValidExpr, Says, SaysItem};
+ghost use Rattle.rows.specs.Decoded.{ValidExpr};
+ghost use Rattle.store.specs.Codes.{Says, SaysItem};
 ghost use Rattle.module.specs.Literals.{Valid};
 use module::BindingValue;
 use module::Expr;
@@ -17,21 +18,8 @@ use module::bits_of;
 use module::float_of;
 use module::integer_of;
 use module::value_of;
-
-// The words of an expression's row after its first item.
-pub struct Row {
-    pub sort: u32,
-    pub a: u32,
-    pub b: u32,
-    pub c: u32,
-}
-
-// The words of an item's row.
-pub struct ItemRow {
-    pub tag: u32,
-    pub a: u32,
-    pub b: u32,
-}
+use rows::ItemRow;
+use rows::Row;
 
 // A number in two words, the higher first.
 fn halves(sort: u32, n: u64) -> Row

@@ -3,8 +3,8 @@
 ghost use mathlib.Core.Path.{_≡_};
 ghost use Rattle.layout.specs.Layout.{Long};
 ghost use Rattle.store.specs.Codes.{hasText, HeldRow, HeldItem};
-use crate::codes::ItemRow;
-use crate::codes::Row;
+use rows::ItemRow;
+use rows::Row;
 use texts::held_text;
 
 const TEXT_PART: u32 = 1;

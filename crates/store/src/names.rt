@@ -9,7 +9,6 @@ ghost use Rattle.layout.specs.Texts.{textIn};
 ghost use Rattle.texts.specs.Fits.{textFits};
 ghost use Rattle.store.specs.TextChanges.{Renamed};
 ghost use Rattle.store.specs.Work.{Did, putName, putDuplicate, nameWith, PutDiagnostic, PutLost};
-use crate::read_counts::name_count;
 use layout::counter;
 use layout::put_pointer;
 use layout::put_two;
@@ -31,6 +30,7 @@ use module::NameId;
 use module::NameKind;
 use module::Pointer;
 use module::TextId;
+use rows::name_count;
 use texts::held_text;
 use words::put32;
 

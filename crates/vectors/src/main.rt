@@ -8,6 +8,10 @@
 // follows them, and a line end after it. The first line of the list says what wrote it. It and the titles are read
 // through the Reader, since they are lines of no form; a line with a number is judged as it is read.
 ghost use Prim.Native.Nat.{_≤_};
+use ask::ask_name;
+use ask::ask_reference;
+use change::change_name;
+use change::change_reference;
 use layout::tables::STORE_BYTES;
 use libc::STDIN_FILENO;
 use libc::STDOUT_FILENO;
@@ -19,10 +23,6 @@ use printing::print_module;
 use printing::print_refusal;
 use printing::reply_word;
 use reader::after_first_line;
-use requests::ask_name;
-use requests::ask_reference;
-use requests::change_name;
-use requests::change_reference;
 use sheet::Fault;
 use sheet::NumberRead;
 use sheet::Position;

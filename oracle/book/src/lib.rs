@@ -1,6 +1,6 @@
-//! The plain book of document 01, which measures demand 3: fed the same calls as the store, it says what each is refused with or answered,
-//! and what the store then holds. It keeps no answer: whatever it says of answers is worked out afresh from a `canon::Reading`, over the
-//! scopes as loaded and the texts as they then read.
+//! The plain book of docs/RULES.md, which measures demand 3: fed the same calls as the store, it says what each is refused with or
+//! answered, and what the store then holds. It keeps no answer: whatever it says of answers is worked out afresh from a
+//! `canon::Reading`, over the scopes as loaded and the texts as they then read.
 //!
 //! An `Outcome` is shown in one line, which is what the host is told:
 //!
@@ -148,7 +148,7 @@ impl<R: Reading> Book<R> {
         }
     }
 
-    /// The checks 8 and 27, and the change. 8 comes before the comparison with the old text (point 21).
+    /// The checks 8 and 27, and the change. 8 comes before the comparison with the old text (D21).
     fn change(&mut self, target: Target, old: &[u8], text: &[u8]) -> Result<Outcome, Refusal> {
         if text.len() > TEXT_BYTES {
             return Err((8, TEXT_BYTES as u32));
@@ -189,7 +189,7 @@ fn ask_name(now: &Facts, number: NameId, buffer: usize) -> Result<Outcome, Refus
     Ok(Outcome { list, ..Outcome::default() })
 }
 
-/// 26: the buffer has fewer bytes than four times the list's length (point 22), which an empty list never meets.
+/// 26: the buffer has fewer bytes than four times the list's length (D28), which an empty list never meets.
 fn fitting(list: Vec<u32>, buffer: usize) -> Result<Vec<u32>, Refusal> {
     // Divided and not multiplied, so that no length can wrap.
     if buffer / 4 < list.len() {

@@ -110,7 +110,7 @@ pub struct Module {
     pub exprs_by_pointer: BTreeMap<Pointer, ExprId>,
     pub names_by_pointer: BTreeMap<Pointer, NameId>,
     pub diagnostics: Vec<DuplicateKey>,
-    /// The lost list of document 01.
+    /// The lost list of docs/RULES.md.
     pub lost: Vec<Pointer>,
 }
 

@@ -1,4 +1,4 @@
-//! The sheets of the folder examples/: the marked examples of document 01 and lines A to E of the request, each with the Nix text that it
+//! The sheets of the folder examples/: the marked examples of docs/RULES.md and lines A to E of the request, each with the Nix text that it
 //! is the sheet of, every node's place in that text, and what refsheet says of it.
 
 use canon::{Answer, Facts, Reading};
@@ -21,7 +21,7 @@ const fn example(name: &'static str, nix: &'static str, tree: &'static str) -> E
     Example { name, nix, tree, script: None }
 }
 
-/// The examples that document 01 marks.
+/// The examples that docs/RULES.md marks.
 pub const MARKED: [Example; 12] = [
     example("lambda", "x: x", r#"21@0..4(11@0..4(28@0..1(18"x"@0..1),18"x"@3..4))"#),
     example("pattern-hides-parameter", "x@{x}: x", r#"21@0..8(11@0..8(29@0..5(30@0..2(18"x"@0..1),31@3..4(18"x"@3..4,-)),18"x"@7..8))"#),
@@ -132,7 +132,7 @@ ask-name 1 buffer=4 reply=20       # no use
 const HEAD: &str = "\
 # Sheets to try
 
-The marked examples of document 01, and lines A to E of the request: Nix texts, each as a syntax sheet with the places
+The marked examples of docs/RULES.md, and lines A to E of the request: Nix texts, each as a syntax sheet with the places
 in the text. docs/SHEET.md has the format. After `rt check refsheet`, one is run by
 `target/bin/refsheet <examples/lambda.sheet`. The calls of a `.script` are run by
 `cargo run --offline --quiet --manifest-path oracle/Cargo.toml -- book SHEET SCRIPT`. All of this folder is written by

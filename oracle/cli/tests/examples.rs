@@ -1,4 +1,4 @@
-//! The examples of document 01, marked and unmarked, through both readings.
+//! The examples of docs/RULES.md, marked and unmarked, through both readings.
 
 use canon::{Answer, BindingValue, Expr, Facts, Pointer, Reading};
 

@@ -1,4 +1,4 @@
-//! Every place with every kind: taken exactly where document 01 says so, refused with 5 at the parent elsewhere.
+//! Every place with every kind: taken exactly where docs/RULES.md says so, refused with 5 at the parent elsewhere.
 
 mod common;
 

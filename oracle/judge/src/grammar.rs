@@ -1,4 +1,4 @@
-//! What document 01 says of the 33 kinds, as tables: their kids' places, what each place takes, and the rules of flag and text.
+//! What docs/RULES.md says of the 33 kinds, as tables: their kids' places, what each place takes, and the rules of flag and text.
 
 use crate::cause::{FlagFamily, TextFault};
 use sheet::kind::*;

@@ -1,9 +1,10 @@
-//! A reading of document 01 that was written from its sentences, without the Rust they describe: what a sheet lowers to, which scopes it
-//! has and what each Reference answers. It is there to be compared with the Rust, so it goes the plain way wherever there is a choice.
+//! A reading of the requirements (docs/RULES.md has them in other words) that was written from their sentences, without the Rust they
+//! describe: what a sheet lowers to, which scopes it has and what each Reference answers. It is there to be compared with the Rust, so
+//! it goes the plain way wherever there is a choice.
 //!
-//! The files lie beside the sections of document 01: `lower` (expressions, names, pointers), `merge` (sets and lets), `scopes` and
-//! `answer`. Sentences in quotes are document 01's; "point" means a point of POINTS.md, which settles what document 01's words leave
-//! open. Where both leave something open the comment begins with `OPEN:`.
+//! The files lie beside the sections of docs/RULES.md: `lower` (expressions, names, pointers), `merge` (sets and lets), `scopes` and
+//! `answer`. Sentences in quotes are the requirements'; D1 and its like are points of docs/DECISIONS.md, which settles what those words
+//! leave open. Where both leave something open the comment begins with `OPEN:`.
 
 use canon::{Expr, ExprId, Facts, Module, NameId, Reading, Resolution, Scopes};
 use sheet::Node;

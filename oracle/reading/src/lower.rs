@@ -146,7 +146,7 @@ impl<'a> Lowering<'a> {
             kind::LIST => Expr::List(kids.iter().map(|&item| self.expr(item)).collect()),
             kind::BIN_OP => self.bin_op(node)?,
             kind::ATTR_SET => self.attr_set(node),
-            // "a flag-0 ... UnaryOp": nothing of its operand is lowered (point 9).
+            // "a flag-0 ... UnaryOp": nothing of its operand is lowered (D9).
             kind::UNARY_OP if node.flag == 0 => return None,
             kind::UNARY_OP => Expr::UnaryOp { op: node.flag, expr: self.expr(kids[0]) },
             // "Error, LegacyLet and a flag-0 Ident give Missing with one."
@@ -159,7 +159,7 @@ impl<'a> Lowering<'a> {
         Some(expr)
     }
 
-    /// An absent default allocates nothing (point 1).
+    /// An absent default allocates nothing (D1).
     fn select(&mut self, node: &'a Node) -> Expr {
         let set = self.expr(node.kids[0]);
         let attrpath = self.attrpath(node.kids[1]);
@@ -173,7 +173,7 @@ impl<'a> Lowering<'a> {
         self.node(number).kids.iter().map(|&attr| self.path_attribute(attr)).collect()
     }
 
-    /// "a flag-0 Ident as a path attribute" gives Missing without a pointer: here, and not in an entry's path (point 2).
+    /// "a flag-0 Ident as a path attribute" gives Missing without a pointer: here, and not in an entry's path (D2).
     ///
     /// OPEN: the rule on static keys inside a Dynamic is read as one on the keys of sets. Here a Dynamic gives what is inside it, so that
     /// in `e.${"a"}` the text has the pointer of the Str.
@@ -187,7 +187,7 @@ impl<'a> Lowering<'a> {
         }
     }
 
-    /// "A flag-0 BinOp lowers its left side first": the left side is then nobody's child (point 9).
+    /// "A flag-0 BinOp lowers its left side first": the left side is then nobody's child (D9).
     fn bin_op(&mut self, node: &'a Node) -> Option<Expr> {
         let lhs = self.expr(node.kids[0]);
         if node.flag == 0 {
@@ -199,7 +199,7 @@ impl<'a> Lowering<'a> {
 
     /// A text where the Str would be a static key, else its parts.
     ///
-    /// OPEN: what two parts without interpolation give. No Nix text gives them, and as a key they are dynamic (point 3): the parts.
+    /// OPEN: what two parts without interpolation give. No Nix text gives them, and as a key they are dynamic (D3): the parts.
     fn string(&mut self, node: &'a Node) -> Expr {
         match self.plain_text(node) {
             Some(text) => Expr::Literal(Literal::Text(text)),
@@ -229,7 +229,7 @@ impl<'a> Lowering<'a> {
         parts
     }
 
-    /// Entries first and the body after them, though its node comes first (point 11).
+    /// Entries first and the body after them, though its node comes first (D11).
     fn let_in(&mut self, node: &'a Node) -> Expr {
         let (body, entries) = node.kids.split_first().expect("a LetIn has its body's place");
         let bindings = Merging::of(self, NameKind::LetIn, pointer(node), entries);
@@ -257,7 +257,7 @@ impl<'a> Lowering<'a> {
         Expr::Lambda { param, pat, body: self.expr(node.kids[1]) }
     }
 
-    /// The fields, each its name and then its default; an absent default allocates nothing (point 1).
+    /// The fields, each its name and then its default; an absent default allocates nothing (D1).
     fn pattern(&mut self, node: &'a Node) -> Pat {
         let mut fields = Vec::new();
         for &place in &node.kids[1..] {
@@ -269,7 +269,7 @@ impl<'a> Lowering<'a> {
         Pat { fields, ellipsis: node.flag == 1 }
     }
 
-    /// "A flag-0 Ident as parameter, bind or pattern entry gives a name with the empty text; an absent one gives no name" (point 6). It
+    /// "A flag-0 Ident as parameter, bind or pattern entry gives a name with the empty text; an absent one gives no name" (D6). It
     /// has the Ident's pointer, as the Ident gives it.
     fn ident_name(&mut self, ident: Place, kind: NameKind) -> Option<NameId> {
         let node = self.node(ident?);
@@ -284,7 +284,7 @@ impl<'a> Lowering<'a> {
     pub(crate) fn key(&self, attr: Place) -> Key {
         let node = self.item(attr);
         let (text, dynamic) = match node.kind {
-            // A flag-0 Ident has no text (point 2).
+            // A flag-0 Ident has no text (D2).
             kind::IDENT => (Some(node.text.clone()), attr),
             kind::DYNAMIC => (self.inside_parens(node.kids[0]).and_then(|inner| self.plain_text(inner)), node.kids[0]),
             _ => (self.plain_text(node), attr),
@@ -292,7 +292,7 @@ impl<'a> Lowering<'a> {
         text.map_or(Key::Dynamic(dynamic), Key::Static)
     }
 
-    /// What is inside any Parens. "Root is no Paren" (point 8).
+    /// What is inside any Parens. "Root is no Paren" (D8).
     fn inside_parens(&self, place: Place) -> Option<&'a Node> {
         let node = self.node(place?);
         if node.kind == kind::PAREN {
@@ -313,7 +313,7 @@ impl<'a> Lowering<'a> {
         }
     }
 
-    /// The entries of a value that is an AttrSet. Neither a Paren nor a Root around one is (point 8).
+    /// The entries of a value that is an AttrSet. Neither a Paren nor a Root around one is (D8).
     pub(crate) fn set_value(&self, value: Place) -> Option<&'a [Place]> {
         let node = self.node(value?);
         (node.kind == kind::ATTR_SET).then_some(&node.kids[..])
@@ -326,7 +326,7 @@ fn float_bits(node: &Node) -> Option<u64> {
     (node.flag == 1).then_some(u64::from_be_bytes(bytes))
 }
 
-/// The value of decimal digits, any number of them and leading zeros allowed (point 18); `None` above the largest.
+/// The value of decimal digits, any number of them and leading zeros allowed (D18); `None` above the largest.
 fn integer(digits: &[u8]) -> Option<i64> {
     let mut value: u64 = 0;
     for digit in digits {

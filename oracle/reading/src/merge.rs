@@ -71,10 +71,10 @@ impl Merging {
 
 /// Paths and their values.
 impl Merging {
-    /// Names of static attributes but the last come before the value, where the key is new (point 11).
+    /// Names of static attributes but the last come before the value, where the key is new (D11).
     fn path_value(&mut self, low: &mut Lowering, set: SetNumber, attrs: &[Place], value: Place) {
         let Some((&last, before)) = attrs.split_last() else {
-            // No path, or one of no attributes, is a dynamic: Missing key, then the value (point 5).
+            // No path, or one of no attributes, is a dynamic: Missing key, then the value (D5).
             return self.dynamic(low, set, None, value);
         };
         let mut at = set;
@@ -109,7 +109,7 @@ impl Merging {
         self.sets[set].dynamics.push((key, value));
     }
 
-    /// "A Dynamic key before the end of a path: nested set first, key second." What follows the key is built at once (point 11) and can
+    /// "A Dynamic key before the end of a path: nested set first, key second." What follows the key is built at once (D11) and can
     /// be merged with nothing, so it has a state of its own.
     fn below_dynamic(&mut self, low: &mut Lowering, set: SetNumber, key: Place, made_by: Pointer, rest: (&[Place], Place)) {
         let mut below = Merging::new(NameKind::PlainAttrset, made_by);
@@ -122,7 +122,7 @@ impl Merging {
 
 /// Inherits.
 impl Merging {
-    /// The source comes first and is listed even where no attribute follows (point 12).
+    /// The source comes first and is listed even where no attribute follows (D12).
     fn inherit(&mut self, low: &mut Lowering, set: SetNumber, node: &Node) {
         let (from, attrs) = node.kids.split_first().expect("an Inherit has its from's place");
         let source = from.map(|from| low.expr(low.node(from).kids[0]));
@@ -136,8 +136,8 @@ impl Merging {
         }
     }
 
-    /// "Inherit-from attributes give a text literal, then a Select"; a plain one a Reference (point 7). All have the attribute's pointer
-    /// (point 10), and come before the name (point 11).
+    /// "Inherit-from attributes give a text literal, then a Select"; a plain one a Reference (D7). All have the attribute's pointer
+    /// (D10), and come before the name (D11).
     fn inherited(&mut self, low: &mut Lowering, set: SetNumber, source: Option<ExprId>, key: Vec<u8>, at: Pointer) {
         let value = match source {
             None => BindingValue::Inherit(low.alloc(Expr::Reference(key.clone()), Some(at))),
@@ -171,7 +171,7 @@ impl Merging {
     }
 
     /// The nested set of a key, made where there is none: "A path makes nested sets of kind PlainAttrset". It has the pointer of the
-    /// attribute that made it (point 10). "A path after a value makes the nested set, drops the value and adds no diagnostic."
+    /// attribute that made it (D10). "A path after a value makes the nested set, drops the value and adds no diagnostic."
     fn nested(&mut self, low: &mut Lowering, set: SetNumber, key: Vec<u8>, made_by: Pointer) -> SetNumber {
         if let Some(nested) = self.nested_at(set, &key) {
             return nested;

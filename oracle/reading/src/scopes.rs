@@ -65,7 +65,7 @@ impl<'a> Walk<'a> {
 
     /// Walks the bindings of a let or a set and gives the scope inside. `opens`: a let or a rec set; "A plain set opens none."
     ///
-    /// Order of walking (point 13): plain inherits outside, the scope, values in key order, sources, dynamics (key, value).
+    /// Order of walking (D13): plain inherits outside, the scope, values in key order, sources, dynamics (key, value).
     fn bindings(&mut self, bindings: &'a Bindings, opens: bool, scope: ScopeId) -> ScopeId {
         for (_, value) in &bindings.statics {
             // "Plain inherit walks outside": the name inherited is that of the scope around.

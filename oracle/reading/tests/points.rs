@@ -1,4 +1,4 @@
-//! POINTS.md: every tree of points 1 to 14, with the counts and answers as written there, and uses of points 23 to 25, a and d.
+//! docs/DECISIONS.md, D1 to D14: every tree, with its counts and answers; and uses of what docs/DIFFERENCES.md tells of Nix.
 
 mod common;
 

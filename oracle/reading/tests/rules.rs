@@ -1,4 +1,4 @@
-//! Sentences of document 01 that have no example there, and the deepest sheets.
+//! Sentences of docs/RULES.md that have no example there, and the deepest sheets.
 
 mod common;
 

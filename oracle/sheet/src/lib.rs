@@ -1,4 +1,4 @@
-//! The syntax sheet of document 01: its nodes, how they are written as bytes, and a short notation for trees.
+//! The syntax sheet of docs/RULES.md: its nodes, how they are written as bytes, and a short notation for trees.
 
 pub mod check;
 pub mod short;

@@ -1,4 +1,4 @@
-//! The followed examples of document 01, as rnix would give them.
+//! The followed examples of docs/RULES.md, as rnix would give them.
 
 mod common;
 

@@ -107,7 +107,7 @@ impl Seen {
         format!("{loads} loads; {}; {moved} answers moved; the room spent in {spent} loads", numbers.join(", "))
     }
 
-    /// Whether every refusal and every answer came up where it can, and what document 01 says of equal texts too.
+    /// Whether every refusal and every answer came up where it can, and what docs/RULES.md says of equal texts too.
     pub fn complete(&self) -> bool {
         let mut complete = true;
         for (kind, numbers) in self.numbers.iter().enumerate() {

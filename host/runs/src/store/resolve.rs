@@ -1,4 +1,4 @@
-//! What a Reference means, by the rule of document 01 over the scopes of a module that was read: for any sound store, also one that no
+//! What a Reference means, by the rule of docs/RULES.md over the scopes of a module that was read: for any sound store, also one that no
 //! load makes.
 
 use super::module::{Answer, Expr, Module, Scoped};

@@ -1,4 +1,4 @@
-//! The places of document 01 once more, written for the tests by themselves, so that neither the generator nor the judge is asked about
+//! The places of docs/RULES.md once more, written for the tests by themselves, so that neither the generator nor the judge is asked about
 //! its own mistakes.
 #![allow(dead_code)]
 

@@ -2,7 +2,7 @@
 use native.Mathlib.Omega.{arith}
 use borrow.Author.Needs.{needs}
 use Rattle.lower.proofs.LeafLaws.{attr-taken, attr-hole}
-use Rattle.store.specs.Codes.{ValidExpr}
+use Rattle.rows.specs.Decoded.{ValidExpr}
 use Rattle.module.specs.Literals.{Valid}
 use Rattle.lower.proofs.leaves.attr_name.Statement.{statement}
 use Rattle.lower.proofs.leaves.attr_name.Tie as tie

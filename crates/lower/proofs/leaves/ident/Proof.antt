@@ -2,7 +2,7 @@
 use native.Mathlib.Omega.{arith}
 use borrow.Author.Needs.{needs}
 use Rattle.lower.proofs.LeafLaws.{ident-taken, ident-hole}
-use Rattle.store.specs.Codes.{ValidExpr}
+use Rattle.rows.specs.Decoded.{ValidExpr}
 use Rattle.lower.proofs.leaves.ident.Statement.{statement}
 use Rattle.lower.proofs.leaves.ident.Tie as tie
 

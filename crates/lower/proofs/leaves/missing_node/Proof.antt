@@ -2,7 +2,7 @@
 use native.Mathlib.Omega.{arith}
 use borrow.Author.Needs.{needs}
 use Rattle.lower.proofs.LeafLaws.{pointed}
-use Rattle.store.specs.Codes.{exprWith, ValidExpr}
+use Rattle.rows.specs.Decoded.{exprWith, ValidExpr}
 use Rattle.lower.proofs.leaves.missing_node.Statement.{statement}
 use Rattle.lower.proofs.leaves.missing_node.Tie as tie
 

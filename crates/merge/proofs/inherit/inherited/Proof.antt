@@ -1,7 +1,7 @@
 -- `merge::inherit::inherited` meets its contract. Written by a script from tools/answers/merge.txt. Assumes nothing.
 use borrow.Author.Needs.{needs}
 use Rattle.merge.proofs.InheritSteps.{inherits-plain}
-use Rattle.store.specs.Codes.{ValidExpr}
+use Rattle.rows.specs.Decoded.{ValidExpr}
 use Rattle.module.specs.Ids.{bindingOf}
 use Rattle.merge.proofs.inherit.inherited.Statement.{statement}
 use Rattle.merge.proofs.inherit.inherited.Tie as tie

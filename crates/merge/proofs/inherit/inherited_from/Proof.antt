@@ -2,7 +2,7 @@
 use native.Mathlib.Omega.{arith}
 use borrow.Author.Needs.{needs}
 use Rattle.merge.proofs.InheritSteps.{inherits-from}
-use Rattle.store.specs.Codes.{ValidExpr, itemWith}
+use Rattle.rows.specs.Decoded.{ValidExpr, itemWith}
 use Rattle.module.specs.Literals.{Valid}
 use Rattle.module.specs.Ids.{bindingOf}
 use Rattle.merge.proofs.inherit.inherited_from.Statement.{statement}

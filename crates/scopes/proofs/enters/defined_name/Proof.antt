@@ -1,7 +1,7 @@
 -- `scopes::enters::defined_name` meets its contract. Written by a script from tools/answers/scopes.txt. Assumes nothing.
 use borrow.Author.Needs.{needs}
 use Rattle.scopes.specs.Entering.{entered}
-use Rattle.store.specs.Codes.{itemWith}
+use Rattle.rows.specs.Decoded.{itemWith}
 use Rattle.layout.specs.Exprs.{statics}
 use Rattle.module.specs.Ids.{nameOf}
 use Rattle.spec.specs.Scopes.{oneOrNone, defined}

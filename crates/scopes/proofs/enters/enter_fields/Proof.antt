@@ -2,7 +2,7 @@
 use borrow.Author.Needs.{needs}
 use Rattle.scopes.proofs.EnterLaws.{enters-none}
 use Rattle.scopes.specs.Entering.{entered}
-use Rattle.store.specs.Codes.{patternWith}
+use Rattle.rows.specs.Decoded.{patternWith}
 use Rattle.layout.specs.Exprs.{pattern}
 use Rattle.spec.specs.Scopes.{fieldNames, patFields}
 use Rattle.scopes.proofs.enters.enter_fields.Statement.{statement}

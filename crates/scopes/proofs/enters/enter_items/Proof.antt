@@ -4,7 +4,7 @@ use Prim.Native.Nat.{_-_}
 use native.Mathlib.Omega.{arith}
 use Rattle.scopes.proofs.EnterLaws.{enters-start, enters-bound, enters-turn, enters-end}
 use Rattle.scopes.specs.Entering.{entered, Enters}
-use Rattle.store.specs.Readers.{itemsAtExpr}
+use Rattle.rows.specs.Readers.{itemsAtExpr}
 use Rattle.layout.specs.States.{moduleIn}
 use Rattle.scopes.proofs.enters.enter_items.Statement.{statement}
 use Rattle.scopes.proofs.enters.enter_items.Tie as tie

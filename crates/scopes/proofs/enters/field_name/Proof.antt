@@ -3,7 +3,7 @@ use mathlib.Core.List.{append-nil}
 use mathlib.Core.Path.{sym}
 use borrow.Author.Needs.{needs}
 use Rattle.scopes.specs.Entering.{entered}
-use Rattle.store.specs.Codes.{itemWith}
+use Rattle.rows.specs.Decoded.{itemWith}
 use Rattle.layout.specs.Exprs.{fields}
 use Rattle.module.specs.Ids.{nameOf}
 use Rattle.spec.specs.Scopes.{oneOrNone, fieldNames}

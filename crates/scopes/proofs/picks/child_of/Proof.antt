@@ -1,7 +1,7 @@
 -- `scopes::picks::child_of` meets its contract. Written by a script from tools/answers/scopes.txt. Assumes nothing.
 use borrow.Author.Needs.{needs}
 use Rattle.scopes.specs.Picking.{picksOf, picked}
-use Rattle.store.specs.Codes.{itemWith}
+use Rattle.rows.specs.Decoded.{itemWith}
 use Rattle.layout.specs.Exprs.{children}
 use Rattle.scopes.proofs.picks.child_of.Statement.{statement}
 use Rattle.scopes.proofs.picks.child_of.Tie as tie

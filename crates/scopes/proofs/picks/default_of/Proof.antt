@@ -3,7 +3,7 @@ use mathlib.Core.List.{append-nil}
 use mathlib.Core.Path.{_∙_, sym}
 use borrow.Author.Needs.{needs}
 use Rattle.scopes.specs.Picking.{picksOf, picked}
-use Rattle.store.specs.Codes.{itemWith}
+use Rattle.rows.specs.Decoded.{itemWith}
 use Rattle.spec.specs.Scopes.{fieldDefaults}
 use Rattle.layout.specs.Exprs.{fields}
 use Rattle.scopes.proofs.picks.default_of.Statement.{statement}

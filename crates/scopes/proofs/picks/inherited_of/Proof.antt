@@ -1,7 +1,7 @@
 -- `scopes::picks::inherited_of` meets its contract. Written by a script from tools/answers/scopes.txt. Assumes nothing.
 use borrow.Author.Needs.{needs}
 use Rattle.scopes.specs.Picking.{picksOf, picked}
-use Rattle.store.specs.Codes.{itemWith}
+use Rattle.rows.specs.Decoded.{itemWith}
 use Rattle.module.specs.Ids.{bindingOf}
 use Rattle.spec.specs.Scopes.{inherited, ifInherited}
 use Rattle.layout.specs.Exprs.{statics}

@@ -2,7 +2,7 @@
 use mathlib.Core.Path.{refl}
 use borrow.Author.Needs.{needs}
 use Rattle.layout.specs.Exprs as rows
-use Rattle.store.specs.Codes.{itemWith}
+use Rattle.rows.specs.Decoded.{itemWith}
 use Rattle.module.specs.Ids.{exprOf, nameOf}
 use Rattle.store.proofs.codes.field_row.Statement.{statement}
 use Rattle.store.proofs.codes.field_row.Tie as tie

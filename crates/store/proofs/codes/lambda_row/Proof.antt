@@ -2,7 +2,8 @@
 use mathlib.Core.Path.{refl}
 use borrow.Author.Needs.{needs}
 use Rattle.layout.specs.Exprs as rows
-use Rattle.store.specs.Codes.{exprWith, sortFor, lambdaSort, ranged, patternWith}
+use Rattle.store.specs.Codes.{sortFor, lambdaSort, ranged}
+use Rattle.rows.specs.Decoded.{exprWith, patternWith}
 use Rattle.module.specs.Ids.{nameOf}
 use Rattle.store.proofs.codes.lambda_row.Statement.{statement}
 use Rattle.store.proofs.codes.lambda_row.Tie as tie

@@ -3,7 +3,8 @@ use mathlib.Core.Path.{refl, _∙_}
 use borrow.Author.Needs.{needs}
 use Rattle.store.proofs.CodeLaws.{float-says, integer-says}
 use Rattle.layout.specs.Exprs as rows
-use Rattle.store.specs.Codes.{exprWith, sortFor, literalSort, ranged}
+use Rattle.store.specs.Codes.{sortFor, literalSort, ranged}
+use Rattle.rows.specs.Decoded.{exprWith}
 use Rattle.module.proofs.LiteralLaws.{unsigned-in}
 use Rattle.module.specs.Literals.{literalOf}
 use Rattle.store.proofs.codes.literal_row.Statement.{statement}

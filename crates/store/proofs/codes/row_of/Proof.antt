@@ -2,7 +2,8 @@
 use mathlib.Core.Path.{refl}
 use borrow.Author.Needs.{needs}
 use Rattle.layout.specs.Exprs as rows
-use Rattle.store.specs.Codes.{exprWith, sortFor, ranged, ValidExpr}
+use Rattle.store.specs.Codes.{sortFor, ranged}
+use Rattle.rows.specs.Decoded.{exprWith, ValidExpr}
 use Rattle.store.proofs.codes.row_of.Statement.{statement}
 use Rattle.store.proofs.codes.row_of.Tie as tie
 

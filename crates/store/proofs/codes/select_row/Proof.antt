@@ -2,7 +2,8 @@
 use mathlib.Core.Path.{refl}
 use borrow.Author.Needs.{needs}
 use Rattle.layout.specs.Exprs as rows
-use Rattle.store.specs.Codes.{exprWith, sortFor, selectSort, ranged}
+use Rattle.store.specs.Codes.{sortFor, selectSort, ranged}
+use Rattle.rows.specs.Decoded.{exprWith}
 use Rattle.module.specs.Ids.{exprOf}
 use Rattle.store.proofs.codes.select_row.Statement.{statement}
 use Rattle.store.proofs.codes.select_row.Tie as tie

@@ -1,7 +1,8 @@
 -- `store::codes::set_row` meets its contract. Written by a script from tools/answers/store.txt. Assumes nothing.
 use mathlib.Core.Path.{refl}
 use Rattle.layout.specs.Exprs as rows
-use Rattle.store.specs.Codes.{exprWith, sortFor, ranged}
+use Rattle.store.specs.Codes.{sortFor, ranged}
+use Rattle.rows.specs.Decoded.{exprWith}
 use Rattle.store.proofs.codes.set_row.Statement.{statement}
 use Rattle.store.proofs.codes.set_row.Tie as tie
 

@@ -1,7 +1,7 @@
 -- `store::exprs::set_reference_text` meets its contract. Written by a script from tools/answers/store.txt. Assumes nothing.
 use borrow.Author.Needs.{needs}
 use Rattle.store.proofs.TextChangeLaws.{no-expr, no-reference, reworded}
-use Rattle.store.proofs.ReferenceLaws.{exprs-cap}
+use Rattle.rows.proofs.ReferenceLaws.{exprs-cap}
 use Rattle.store.proofs.exprs.set_reference_text.Statement.{statement}
 use Rattle.store.proofs.exprs.set_reference_text.Tie as tie
 

@@ -11,7 +11,7 @@ use Rattle.lower.proofs.ctx.opt.Reads as opt
 use Rattle.lower.proofs.ctx.+attr+attrs+binds+binop+cond+entries+entry+expr+field+fields+get+has+heir+inherit+join+keyed+lambda+last+let_in+list+nest+nested+opt+pair+part+parts+path+push+put+set+src+step+str+there+unop.Lts-binop as lts
 use Rattle.lower.proofs.ctx.+attr+attrs+binds+binop+cond+entries+entry+expr+field+fields+get+has+heir+inherit+join+keyed+lambda+last+let_in+list+nest+nested+opt+pair+part+parts+path+push+put+set+src+step+str+there+unop.Proof.Common.{binop-at, opt-below}
 use Rattle.lower.proofs.ExprLaws.{binop-missing, binop-lowers}
-use Rattle.store.specs.Codes.{ValidExpr}
+use Rattle.rows.specs.Decoded.{ValidExpr}
 
 abbrev pub calls : ℕ → lts.Claims
 calls t = (children-of-reads.Asked, children-of-reads.Learnt, node-flag-reads.Asked, node-flag-reads.Learnt, opt-below t, opt.Post, alloc-missing-reads.Asked, alloc-missing-reads.Learnt, alloc-lone-reads.Asked, alloc-lone-reads.Learnt)

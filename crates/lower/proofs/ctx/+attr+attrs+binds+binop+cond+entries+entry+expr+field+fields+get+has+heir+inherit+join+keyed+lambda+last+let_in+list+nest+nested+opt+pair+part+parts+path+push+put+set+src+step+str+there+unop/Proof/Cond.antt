@@ -9,7 +9,7 @@ use Rattle.lower.proofs.ctx.opt.Reads as opt
 use Rattle.lower.proofs.ctx.+attr+attrs+binds+binop+cond+entries+entry+expr+field+fields+get+has+heir+inherit+join+keyed+lambda+last+let_in+list+nest+nested+opt+pair+part+parts+path+push+put+set+src+step+str+there+unop.Lts-cond as lts
 use Rattle.lower.proofs.ctx.+attr+attrs+binds+binop+cond+entries+entry+expr+field+fields+get+has+heir+inherit+join+keyed+lambda+last+let_in+list+nest+nested+opt+pair+part+parts+path+push+put+set+src+step+str+there+unop.Proof.Common.{cond-at, opt-below}
 use Rattle.lower.proofs.ExprLaws.{cond-lowers}
-use Rattle.store.specs.Codes.{ValidExpr}
+use Rattle.rows.specs.Decoded.{ValidExpr}
 
 abbrev pub calls : ℕ → lts.Claims
 calls t = (children-of-reads.Asked, children-of-reads.Learnt, opt-below t, opt.Post, alloc-lone-reads.Asked, alloc-lone-reads.Learnt)

@@ -12,7 +12,7 @@ use Rattle.store.proofs.waiting_count.Reads as waiting-count-reads
 use Rattle.lower.proofs.ctx.+attr+attrs+binds+binop+cond+entries+entry+expr+field+fields+get+has+heir+inherit+join+keyed+lambda+last+let_in+list+nest+nested+opt+pair+part+parts+path+push+put+set+src+step+str+there+unop.Lts-get as lts
 use Rattle.lower.proofs.ctx.+attr+attrs+binds+binop+cond+entries+entry+expr+field+fields+get+has+heir+inherit+join+keyed+lambda+last+let_in+list+nest+nested+opt+pair+part+parts+path+push+put+set+src+step+str+there+unop.Proof.Common.{attrs-below, get-at, opt-below, there-below}
 use Rattle.lower.proofs.ListedLaws.{select-lowers}
-use Rattle.store.specs.Codes.{ValidExpr}
+use Rattle.rows.specs.Decoded.{ValidExpr}
 
 abbrev pub calls : ℕ → lts.Claims
 calls t = (waiting-count-reads.Asked, waiting-count-reads.Learnt, children-of-reads.Asked, children-of-reads.Learnt, opt-below t, opt.Post, attrs-below t, attrs.Post, there-below t, there.Post, alloc-expr-reads.Asked, alloc-expr-reads.Learnt)

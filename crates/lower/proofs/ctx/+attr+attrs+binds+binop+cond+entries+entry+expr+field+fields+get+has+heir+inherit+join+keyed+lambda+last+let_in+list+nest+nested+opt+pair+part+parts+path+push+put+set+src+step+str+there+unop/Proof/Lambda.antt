@@ -14,7 +14,7 @@ use Rattle.lower.proofs.ctx.+attr+attrs+binds+binop+cond+entries+entry+
 use Rattle.lower.proofs.ctx.+attr+attrs+binds+binop+cond+entries+entry+expr+field+fields+get+has+heir+inherit+join+keyed+lambda+last+let_in+list+nest+nested+opt+pair+part+parts+path+push+put+set+src+step+str+there+unop.Proof.Common.{fields-below, lambda-at, opt-below}
 use Rattle.lower.proofs.LambdaLaws.{lambda-lowers}
 use Rattle.lower.proofs.LeafLaws.{name-lowers}
-use Rattle.store.specs.Codes.{ValidExpr}
+use Rattle.rows.specs.Decoded.{ValidExpr}
 
 abbrev pub calls : ℕ → lts.Claims
 calls t = (waiting-count-reads.Asked, waiting-count-reads.Learnt, children-of-reads.Asked, children-of-reads.Learnt, param-of-reads.Asked, param-of-reads.Learnt, lower-name-reads.Asked, lower-name-reads.Learnt, fields-below t, fields.Post, opt-below t, opt.Post, alloc-expr-reads.Asked, alloc-expr-reads.Learnt)

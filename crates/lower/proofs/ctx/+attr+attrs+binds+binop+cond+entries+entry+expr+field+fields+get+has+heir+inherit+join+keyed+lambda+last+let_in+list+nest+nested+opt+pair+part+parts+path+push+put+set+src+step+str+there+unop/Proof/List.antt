@@ -13,7 +13,7 @@ use Rattle.lower.proofs.ctx.+attr+attrs+binds+binop+cond+entries+entry+
 use Rattle.lower.proofs.ctx.+attr+attrs+binds+binop+cond+entries+entry+expr+field+fields+get+has+heir+inherit+join+keyed+lambda+last+let_in+list+nest+nested+opt+pair+part+parts+path+push+put+set+src+step+str+there+unop.Proof.Common.{expr-below, list-at}
 use Prim.Native.Nat.{_-_}
 use Rattle.layout.specs.Layout.{kidLimit}
-use Rattle.store.specs.Codes.{ValidExpr}
+use Rattle.rows.specs.Decoded.{ValidExpr}
 use Rattle.lower.proofs.ReadLaws.{next-of-node, in-end, in-first}
 use Rattle.lower.proofs.LoopLaws.{ListLeft, list-start, list-turn, list-end}
 

@@ -13,7 +13,7 @@ use Rattle.store.proofs.waiting_count.Reads as waiting-count-reads
 use Rattle.lower.proofs.ctx.+attr+attrs+binds+binop+cond+entries+entry+expr+field+fields+get+has+heir+inherit+join+keyed+lambda+last+let_in+list+nest+nested+opt+pair+part+parts+path+push+put+set+src+step+str+there+unop.Lts-path as lts
 use Rattle.lower.proofs.ctx.+attr+attrs+binds+binop+cond+entries+entry+expr+field+fields+get+has+heir+inherit+join+keyed+lambda+last+let_in+list+nest+nested+opt+pair+part+parts+path+push+put+set+src+step+str+there+unop.Proof.Common.{parts-below, path-at}
 use Rattle.lower.proofs.ListedLaws.{path-parts, path-literal}
-use Rattle.store.specs.Codes.{ValidExpr}
+use Rattle.rows.specs.Decoded.{ValidExpr}
 use Rattle.module.specs.Literals.{Valid}
 
 abbrev pub calls : ℕ → lts.Claims

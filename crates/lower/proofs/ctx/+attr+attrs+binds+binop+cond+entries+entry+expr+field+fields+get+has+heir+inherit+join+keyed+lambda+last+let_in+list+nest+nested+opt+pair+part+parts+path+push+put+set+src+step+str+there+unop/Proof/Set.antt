@@ -11,7 +11,7 @@ use Rattle.lower.proofs.ctx.set.Reads as set
 use Rattle.store.proofs.waiting_count.Reads as waiting-count-reads
 use Rattle.lower.proofs.ctx.+attr+attrs+binds+binop+cond+entries+entry+expr+field+fields+get+has+heir+inherit+join+keyed+lambda+last+let_in+list+nest+nested+opt+pair+part+parts+path+push+put+set+src+step+str+there+unop.Lts-set as lts
 use Rattle.lower.proofs.ctx.+attr+attrs+binds+binop+cond+entries+entry+expr+field+fields+get+has+heir+inherit+join+keyed+lambda+last+let_in+list+nest+nested+opt+pair+part+parts+path+push+put+set+src+step+str+there+unop.Proof.Common.{binds-below, set-at}
-use Rattle.store.specs.Codes.{ValidExpr}
+use Rattle.rows.specs.Decoded.{ValidExpr}
 use Rattle.lower.proofs.BindingLaws.{set-lowers}
 
 abbrev pub calls : ℕ → lts.Claims

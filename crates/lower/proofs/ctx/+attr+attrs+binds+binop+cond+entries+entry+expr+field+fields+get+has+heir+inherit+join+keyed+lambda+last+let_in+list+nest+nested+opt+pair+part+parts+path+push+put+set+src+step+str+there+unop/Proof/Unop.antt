@@ -11,7 +11,7 @@ use Rattle.lower.proofs.ctx.unop.Reads as unop
 use Rattle.lower.proofs.ctx.+attr+attrs+binds+binop+cond+entries+entry+expr+field+fields+get+has+heir+inherit+join+keyed+lambda+last+let_in+list+nest+nested+opt+pair+part+parts+path+push+put+set+src+step+str+there+unop.Lts-unop as lts
 use Rattle.lower.proofs.ctx.+attr+attrs+binds+binop+cond+entries+entry+expr+field+fields+get+has+heir+inherit+join+keyed+lambda+last+let_in+list+nest+nested+opt+pair+part+parts+path+push+put+set+src+step+str+there+unop.Proof.Common.{opt-below, unop-at}
 use Rattle.lower.proofs.ExprLaws.{unop-missing, unop-lowers}
-use Rattle.store.specs.Codes.{ValidExpr}
+use Rattle.rows.specs.Decoded.{ValidExpr}
 
 abbrev pub calls : ℕ → lts.Claims
 calls t = (children-of-reads.Asked, children-of-reads.Learnt, node-flag-reads.Asked, node-flag-reads.Learnt, alloc-missing-reads.Asked, alloc-missing-reads.Learnt, opt-below t, opt.Post, alloc-lone-reads.Asked, alloc-lone-reads.Learnt)

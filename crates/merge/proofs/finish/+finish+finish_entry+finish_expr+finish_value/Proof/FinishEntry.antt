@@ -6,7 +6,7 @@ use Rattle.merge.proofs.finish.finish_value.Reads as finish-value
 use Rattle.store.proofs.push_item.Reads as push-item-reads
 use Rattle.merge.proofs.finish.+finish+finish_entry+finish_expr+finish_value.Lts-finish_entry as lts
 use Rattle.merge.proofs.finish.+finish+finish_entry+finish_expr+finish_value.Proof.Common.{finish-entry-at, finish-value-below}
-use Rattle.store.specs.Codes.{itemWith}
+use Rattle.rows.specs.Decoded.{itemWith}
 use Rattle.open_sets.specs.Entries.{entryWith}
 use Rattle.merge.specs.Finishes.{finishEntry, entryLoad}
 use Rattle.merge.proofs.FinishLaws.{static-listed, lone-listed}

@@ -10,7 +10,7 @@ use Rattle.open_sets.proofs.set_pointer.Reads as set-pointer-reads
 use Rattle.store.proofs.waiting_count.Reads as waiting-count-reads
 use Rattle.merge.proofs.finish.+finish+finish_entry+finish_expr+finish_value.Lts-finish_expr as lts
 use Rattle.merge.proofs.finish.+finish+finish_entry+finish_expr+finish_value.Proof.Common.{finish-below, finish-expr-at}
-use Rattle.store.specs.Codes.{ValidExpr}
+use Rattle.rows.specs.Decoded.{ValidExpr}
 use Rattle.merge.proofs.FinishLaws.{no-bound, set-finished}
 
 abbrev pub calls : ℕ → lts.Claims

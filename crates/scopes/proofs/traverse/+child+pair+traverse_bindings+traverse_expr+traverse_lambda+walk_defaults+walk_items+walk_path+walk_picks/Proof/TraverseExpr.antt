@@ -6,7 +6,7 @@ use Rattle.scopes.proofs.traverse.child.Reads as child
 use Rattle.kept.proofs.open_with.Reads as open-with-reads
 use Rattle.scopes.proofs.traverse.pair.Reads as pair
 use Rattle.kept.proofs.place_expr.Reads as place-expr-reads
-use Rattle.store.proofs.read_expr.Reads as read-expr-reads
+use Rattle.rows.proofs.read_expr.Reads as read-expr-reads
 use Rattle.scopes.proofs.traverse.traverse_bindings.Reads as traverse-bindings
 use Rattle.scopes.proofs.traverse.traverse_expr.Reads as traverse-expr
 use Rattle.scopes.proofs.traverse.traverse_lambda.Reads as traverse-lambda

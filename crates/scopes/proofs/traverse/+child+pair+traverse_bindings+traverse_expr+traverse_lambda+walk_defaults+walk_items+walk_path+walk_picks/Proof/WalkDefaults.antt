@@ -8,7 +8,7 @@ use Rattle.scopes.proofs.traverse.+child+pair+traverse_bindings+travers
 use Rattle.scopes.proofs.traverse.+child+pair+traverse_bindings+traverse_expr+traverse_lambda+walk_defaults+walk_items+walk_path+walk_picks.Proof.Common.{walk-defaults-at, walk-items-below}
 use Rattle.spec.specs.Scopes.{fieldDefaults, patFields}
 use Rattle.layout.specs.Exprs.{pattern}
-use Rattle.store.specs.Codes.{patternWith}
+use Rattle.rows.specs.Decoded.{patternWith}
 use Rattle.scopes.specs.Picking.{picked}
 use Rattle.scopes.proofs.Steps.{follows-none}
 

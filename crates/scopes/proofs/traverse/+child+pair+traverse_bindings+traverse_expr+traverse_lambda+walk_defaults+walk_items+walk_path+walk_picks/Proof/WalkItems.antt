@@ -1,7 +1,7 @@
 -- The answers of `walk_items`. Written by a script from tools/answers/scopes.cycle.txt. Assumes nothing.
 use Prim.Native.Nat.{ℕ}
 use native.Mathlib.Omega.{arith}
-use Rattle.store.proofs.item_count.Reads as item-count-reads
+use Rattle.rows.proofs.item_count.Reads as item-count-reads
 use Rattle.scopes.proofs.picks.pick_item.Reads as pick-item-reads
 use Rattle.scopes.proofs.traverse.walk_items.Reads as walk-items
 use Rattle.scopes.proofs.traverse.walk_picks.Reads as walk-picks
@@ -9,7 +9,7 @@ use Rattle.scopes.proofs.traverse.+child+pair+traverse_bindings+travers
 use Rattle.scopes.proofs.traverse.+child+pair+traverse_bindings+traverse_expr+traverse_lambda+walk_defaults+walk_items+walk_path+walk_picks.Proof.Common.{walk-items-at, walk-picks-below}
 use Prim.Native.Nat.{_-_}
 use lib.ListN.{take}
-use Rattle.store.specs.Readers.{itemsAtExpr}
+use Rattle.rows.specs.Readers.{itemsAtExpr}
 use Rattle.scopes.specs.Picking.{picked}
 use Rattle.scopes.specs.Walking.{Follows}
 use Rattle.scopes.proofs.PickLaws.{items-start, items-turn, items-end}

@@ -1,0 +1,3 @@
+pub mod ConditionLaws
+pub mod RowChanges
+pub mod ChangeLaws

@@ -1,0 +1,3 @@
+pub mod ReadLaws
+pub mod SourceMapLaws
+pub mod ReferenceLaws
