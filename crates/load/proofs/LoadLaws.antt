@@ -54,7 +54,7 @@ module _ (sheet s p : List ℕ) where
   unfolding loadOutcome Leaves
   store-too-short h told = promised s (Judged.refused 21 0) (short-store h) told refl
 
-  -- 1 to 7, or none
+  -- 1 to 7 or 31 to 33, or none
   module _ (long : Long s) (room : replyBytes ≤ length p) (a : SheetRead) (e : a ≡ answer sheet (judge sheet)) where
     pub sheet-refused : (number place : ℕ) {r : ℕ} {q : List ℕ} → a ≡ Refused number place → Told (refusal number (place % 4294967296)) p r q → Promise sheet s p r s q
     unfolding answer loadOutcome Leaves

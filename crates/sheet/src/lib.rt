@@ -1,5 +1,5 @@
-// Reads a syntax sheet forward, line by line, or refuses it: refusals 1, 2 and 3 of document 01 (docs/RULES.md, "Lines
-// refused").
+// Reads a syntax sheet forward, line by line, or refuses it: refusals 1 to 3 of document 01, and 31 to 33, which say
+// what is wrong with a flag, a text or a range (docs/RULES.md, "Lines refused").
 //
 // It knows the sheet's bytes and the rules of the kinds for flags and texts, and nothing of a tree
 // or a store. Reading writes nothing: what a reader gives are numbers, places and spans of the sheet.

@@ -35,7 +35,7 @@ impl Span {
     }
 }
 
-// A malformed line is refusal 2. The others are refusal 3, kept apart by what they are about.
+// A malformed line is refusal 2. A value that is wrong is 3, 31, 32 or 33, by what it is about (`refusal` in sheets.rt).
 pub enum Fault {
     Malformed,
     WrongCount,

@@ -29,10 +29,10 @@ fn refusal(why: Fault) -> u32
         Fault::Malformed => 2,
         Fault::WrongCount => 3,
         Fault::WrongKind => 3,
-        Fault::WrongRange => 3,
-        Fault::WrongFlag => 3,
+        Fault::WrongRange => 33,
+        Fault::WrongFlag => 31,
         Fault::WrongKid => 3,
-        Fault::WrongText => 3,
+        Fault::WrongText => 32,
     }
 }
 
@@ -59,7 +59,7 @@ impl Position {
     }
 }
 
-// Refusals 1, 2 and 3, or the count of nodes of an accepted sheet.
+// Refusals 1 to 3 and 31 to 33, or the count of nodes of an accepted sheet.
 pub fn read_sheet(s: &[u8]) -> SheetRead
     ensures { λ r. ⌜ r ≡ answer (now (s .entry)) (readSheet (now (s .entry))) ⌝ }
 {

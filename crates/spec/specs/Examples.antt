@@ -1,9 +1,9 @@
 -- The marked examples (docs/RULES.md, "Followed examples"): from the bytes of a sheet through all definitions to
 -- exactly what document 01 says of them, with the four counts. The sheets are those of `oracle tree`; that of `x: x` is
--- document 01's.
+-- document 01's. And lines that are refused, each for its own reason.
 use mathlib.Core.Path.{_≡_, refl}
 use mathlib.Core.Bool.{false}
-use mathlib.Core.List.{List, [], _∷_, map}
+use mathlib.Core.List.{List, [], _∷_, _++_, map}
 use mathlib.Core.Option.{Option, none, some}
 use Prim.Native.Nat.{ℕ, suc}
 use Prim.Native.String.{String}
@@ -140,3 +140,33 @@ examples =
 pub marked : map computed examples ≡ map (λ x. x .gives) examples
 unfolding computes examples
 marked = refl
+
+-- ---- lines refused
+-- A Root with one child or none, and the five lines of an Ident after its kind: they begin at bytes 56, 63, 68, 75 and 81
+-- where the ones before them are `from=0`, `to=1`, `flag=0` and `kids=`.
+abbrev pub rootAnd : String → String → List ℕ
+rootAnd kid lines = bytes "nodes=2\nkind=21\nfrom=0\nto=1\nflag=0\nkids=" ++ bytes kid ++ bytes "\ntext=\nkind=18\n" ++ bytes lines
+
+unfoldable pub refusedLines : List (List ℕ × Judged)
+refusedLines =
+    -- the line decides: a text that the flag 0 leaves no room for is a text outside the rule
+    (rootAnd "1" "from=0\nto=1\nflag=0\nkids=\ntext=78\n", refused 32 81)
+    -- a flag of any length; and it comes before a child that there is not
+    ∷ (rootAnd "1" "from=0\nto=1\nflag=99999999999999999999\nkids=2\ntext=\n", refused 31 68)
+    -- malformed, and no flag or text at all
+    ∷ (rootAnd "1" "from=0\nto=1\nflag=01\nkids=\ntext=\n", refused 2 68)
+    ∷ (rootAnd "1" "from=0\nto=1\nflag=1\nkids=\ntext=7A\n", refused 2 81)
+    -- a range that ends before it begins is told where it ends, one that is too large where it is
+    ∷ (rootAnd "1" "from=1\nto=0\nflag=0\nkids=\ntext=\n", refused 33 63)
+    ∷ (rootAnd "1" "from=4294967296\nto=0\nflag=0\nkids=\ntext=\n", refused 33 56)
+    ∷ (rootAnd "1" "from=0\nto=4294967296\nflag=0\nkids=\ntext=\n", refused 33 63)
+    -- a child that there is not
+    ∷ (rootAnd "1" "from=0\nto=1\nflag=0\nkids=2\ntext=\n", refused 3 75)
+    -- a node that the walk does not meet: its lines come first
+    ∷ (rootAnd "-" "from=0\nto=1\nflag=2\nkids=\ntext=\n", refused 31 68)
+    ∷ (rootAnd "-" "from=0\nto=1\nflag=0\nkids=\ntext=\n", refused 7 1)
+    ∷ []
+
+pub told : map (λ x. judge (x .0)) refusedLines ≡ map (λ x. x .1) refusedLines
+unfolding computes refusedLines
+told = refl

@@ -1,4 +1,4 @@
--- docs/RULES.md, "Entry: the sheet", and refusals 1, 2 and 3 ("Lines refused"): from bytes to nodes.
+-- docs/RULES.md, "Entry: the sheet", and refusals 1 to 3 and 31 to 33 ("Lines refused"): from bytes to nodes.
 -- A sheet (document 01's term) is lines that end in byte 10: first `nodes=`, then six for each node.
 use mathlib.Core.Bool.{Bool, true, false, _&&_, not}
 use mathlib.Core.List.{List, [], _∷_}
@@ -19,18 +19,20 @@ pub record Node : Type 0 where
   pub kids : List (Option NodeId)
   pub text : Text
 
--- What is wrong with a line. A malformed one is refusal 2; the others are refusal 3, kept apart by what they are about.
+-- What is wrong with a line: its form, or what its value is about.
 pub data Fault : Type 0 where
   malformed wrongCount wrongKind wrongRange wrongFlag wrongKid wrongText : Fault
 
+-- the refusal: 3 where the value is a number of the sheet itself (`nodes`, `kind`, `kids`); a flag, a text and a range
+-- have one each
 unfoldable pub faultNumber : Fault → ℕ
 faultNumber malformed = 2
 faultNumber wrongCount = 3
 faultNumber wrongKind = 3
-faultNumber wrongRange = 3
-faultNumber wrongFlag = 3
+faultNumber wrongRange = 33
+faultNumber wrongFlag = 31
 faultNumber wrongKid = 3
-faultNumber wrongText = 3
+faultNumber wrongText = 32
 
 -- What reading gives: a value and the place of the next line; or a fault and the place of its line.
 pub data Got (A : Type 0) : Type 0 where

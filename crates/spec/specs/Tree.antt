@@ -78,6 +78,6 @@ unfoldable pub judgeTree : Judged → Judged
 judgeTree (accepted nodes) = wholeTree nodes (walkTo nodes 255 0)
 judgeTree (refused number place) = refused number place
 
--- All that is refused because of the sheet: its nodes, or refusal 1 to 7 and its place.
+-- All that is refused because of the sheet: its nodes, or refusal 1 to 7 or 31 to 33 and its place.
 unfoldable pub judge : List ℕ → Judged
 judge s = judgeTree (readSheet s)

@@ -37,7 +37,7 @@ fn judge_tree(s: &[u8], nodes: u32, first: Position) -> SheetRead
     all_met(nodes, first, walked)
 }
 
-// Refusals 1 to 7, or how many nodes the sheet has and where the first one starts.
+// Refusals 1 to 7 and 31 to 33, or how many nodes the sheet has and where the first one starts.
 pub fn judge(s: &[u8]) -> SheetRead
     ensures { λ r. ⌜ r ≡ answer (now (s .entry)) (judge (now (s .entry))) ⌝ }
 {

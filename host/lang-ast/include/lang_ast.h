@@ -78,7 +78,7 @@ static inline uint32_t lang_ast_word(const uint8_t *bytes, size_t at) {
 /* Refusals, and what their place is where it is not 0. */
 #define LANG_AST_SHEET_TOO_LONG 1   /* more than 1,048,576 bytes */
 #define LANG_AST_FORM 2             /* a line is missing, not in form or too many: its first byte */
-#define LANG_AST_VALUE 3            /* a value is out of range: the line's first byte */
+#define LANG_AST_VALUE 3            /* the number of nodes, a kind or a kid's number is out of range: the line's first byte */
 #define LANG_AST_KID_COUNT 4        /* too few or too many kids: the node */
 #define LANG_AST_WRONG_KID 5        /* a kid out of order, of the wrong kind or wrongly absent: the parent */
 #define LANG_AST_TOO_DEEP 6         /* deeper than 256: the parent */
@@ -91,6 +91,9 @@ static inline uint32_t lang_ast_word(const uint8_t *bytes, size_t at) {
 #define LANG_AST_NOT_A_REFERENCE 25  /* the number */
 #define LANG_AST_BUFFER_TOO_SHORT 26 /* the list's length: four bytes for each number are wanted */
 #define LANG_AST_ROOM_SPENT 27       /* all changes since the load would have more than 8,192 bytes */
+#define LANG_AST_WRONG_FLAG 31       /* a flag that its kind does not have: the line's first byte */
+#define LANG_AST_WRONG_TEXT 32       /* a text that its kind, with its flag, does not have: the line's first byte */
+#define LANG_AST_WRONG_RANGE 33      /* `from` above `to`, or one of them too large: the line's first byte */
 
 /* Loads a sheet into the store, which may hold anything before. */
 uint32_t lang_ast_load(const uint8_t *sheet, size_t sheet_length, uint8_t *store, size_t store_length, uint8_t *reply,

@@ -20,7 +20,7 @@ use std::fmt;
 /// ```
 #[derive(Clone, Copy, PartialEq, Eq, Hash, PartialOrd, Ord)]
 pub struct Refusal {
-    /// Which refusal it is: 1 to 7 are of the sheet, 8 and 21 to 27 of the other calls.
+    /// Which refusal it is: 1 to 7 and 31 to 33 are of the sheet, 8 and 21 to 27 of the other calls.
     pub number: u32,
     /// Where, or how much: what [`Reason`] says for the number; 0 where it says nothing.
     pub place: u32,
@@ -36,7 +36,8 @@ pub enum Reason {
     /// the last line. The place is the first byte of the line or of those bytes; the sheet's length where a line is
     /// missing.
     Form,
-    /// 3: a value on a line of the sheet is out of its range or against its kind's rule. The place is the line's first byte.
+    /// 3: the number of nodes, a kind or a kid's number is out of its range; node 0 has to be a Root. The place is the first byte of its
+    /// line.
     Value,
     /// 4: a node has too few or too many kids. The place is the node.
     KidCount,
@@ -63,6 +64,13 @@ pub enum Reason {
     BufferTooShort,
     /// 27: the texts of all changes since the load would come to more than 8,192 bytes.
     RoomSpent,
+    /// 31: a node has a flag that its kind does not have. The place is the first byte of its line.
+    WrongFlag,
+    /// 32: a node has a text that its kind, with its flag, does not have. The place is the first byte of its line.
+    WrongText,
+    /// 33: a node's `from` is above its `to`, or one of them is above 4,294,967,295. The place is the first byte of its line; a `from` above
+    /// its `to` is told at the line of the `to`.
+    WrongRange,
 }
 
 impl Refusal {
@@ -84,13 +92,16 @@ impl Refusal {
             25 => Reason::NotAReference,
             26 => Reason::BufferTooShort,
             27 => Reason::RoomSpent,
+            31 => Reason::WrongFlag,
+            32 => Reason::WrongText,
+            33 => Reason::WrongRange,
             _ => return None,
         })
     }
 
-    /// Whether the sheet is the reason: 1 to 7.
+    /// Whether the sheet is the reason: 1 to 7 and 31 to 33.
     pub fn is_of_the_sheet(self) -> bool {
-        (1..=7).contains(&self.number)
+        matches!(self.number, 1..=7 | 31..=33)
     }
 
     /// Whether the store itself is the reason, whatever it is asked: 21 to 23.
@@ -117,7 +128,8 @@ impl fmt::Display for Refusal {
                 write!(f, "at byte {place} of the sheet a line {wrong}")
             }
             Reason::Value => {
-                write!(f, "at byte {place} of the sheet a line has a value that is out of its range or that its node may not have")
+                let wrong = "the number of nodes, a kind (node 0 is a Root) or a kid's number is out of its range";
+                write!(f, "at byte {place} of the sheet {wrong}")
             }
             Reason::KidCount => write!(f, "node {place} of the sheet has too few or too many kids"),
             Reason::WrongKid => {
@@ -136,6 +148,11 @@ impl fmt::Display for Refusal {
             Reason::RoomSpent => {
                 let then = "reload a sheet of the changed text";
                 write!(f, "the texts of all changes since the load would have more than 8,192 bytes: {then}")
+            }
+            Reason::WrongFlag => write!(f, "at byte {place} of the sheet a node has a flag that its kind does not have"),
+            Reason::WrongText => write!(f, "at byte {place} of the sheet a node has a text that its kind, with its flag, does not have"),
+            Reason::WrongRange => {
+                write!(f, "at byte {place} of the sheet a node's `from` is above its `to`, or one of them is above 4,294,967,295")
             }
         }
     }
@@ -158,7 +175,7 @@ mod tests {
     #[test]
     fn each_number_has_its_sentence() {
         let numbers: Vec<u32> = (0..100).filter(|&number| Refusal { number, place: 9 }.reason().is_some()).collect();
-        assert_eq!(numbers, [1, 2, 3, 4, 5, 6, 7, 8, 21, 22, 23, 24, 25, 26, 27]);
+        assert_eq!(numbers, [1, 2, 3, 4, 5, 6, 7, 8, 21, 22, 23, 24, 25, 26, 27, 31, 32, 33]);
         let mut sentences: Vec<String> = numbers.iter().map(|&number| Refusal { number, place: 9 }.to_string()).collect();
         sentences.sort();
         sentences.dedup();
@@ -177,6 +194,13 @@ mod tests {
         let form = "refused (2): at byte 305 of the sheet a line is missing, or is without its key, its form or the newline at its end, \
             or bytes follow the last line";
         assert_eq!(said(2), form);
+        let value =
+            "refused (3): at byte 305 of the sheet the number of nodes, a kind (node 0 is a Root) or a kid's number is out of its range";
+        assert_eq!(said(3), value);
+        assert_eq!(said(31), "refused (31): at byte 305 of the sheet a node has a flag that its kind does not have");
+        assert_eq!(said(32), "refused (32): at byte 305 of the sheet a node has a text that its kind, with its flag, does not have");
+        let range = "refused (33): at byte 305 of the sheet a node's `from` is above its `to`, or one of them is above 4,294,967,295";
+        assert_eq!(said(33), range);
         let kid = "refused (5): node 305 of the sheet has a kid that is not the next node, or is of a kind that its place does not take, \
             or is absent in a list";
         assert_eq!(said(5), kid);
@@ -189,7 +213,7 @@ mod tests {
     #[test]
     fn numbers_are_of_the_sheet_or_of_the_store() {
         let of = |test: fn(Refusal) -> bool| (0..100).filter(move |&number| test(Refusal { number, place: 0 })).collect::<Vec<u32>>();
-        assert_eq!(of(Refusal::is_of_the_sheet), [1, 2, 3, 4, 5, 6, 7]);
+        assert_eq!(of(Refusal::is_of_the_sheet), [1, 2, 3, 4, 5, 6, 7, 31, 32, 33]);
         assert_eq!(of(Refusal::is_of_the_store), [21, 22, 23]);
     }
 }

@@ -103,8 +103,8 @@ impl Store {
         Store { bytes: vec![0; STORE_BYTES].into_boxed_slice() }
     }
 
-    /// A store of the sheet; refused are the sheets that docs/SHEET.md refuses, with 1 to 7. [`SheetWriter`](crate::SheetWriter) writes
-    /// sheets that are not.
+    /// A store of the sheet; refused are the sheets that docs/SHEET.md refuses, with 1 to 7 and 31 to 33.
+    /// [`SheetWriter`](crate::SheetWriter) writes sheets that are not.
     pub fn load(sheet: &[u8]) -> Result<Self, Refusal> {
         let mut store = Store::empty();
         store.reload(sheet)?;

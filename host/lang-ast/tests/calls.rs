@@ -20,12 +20,19 @@ fn load(bytes: &[u8]) -> (u32, u32) {
 }
 
 #[test]
-fn sheets_are_refused_with_1_to_7() {
+fn sheets_are_refused_with_1_to_7_and_31_to_33() {
     let deep = |parens: usize| format!("21({}10{})", "15(".repeat(parens), ")".repeat(parens));
     assert_eq!(load(&vec![b'x'; 1_048_577]), (1, 0));
     assert_eq!(load(b""), (2, 0));
     assert_eq!(load(b"nodes=1\nkind=21\nfrom"), (2, 16));
     assert_eq!(load(b"nodes=1\nkind=20\n"), (3, 8));
+    assert_eq!(load(b"nodes=1\nkind=21\nfrom=0\nto=0\nflag=1\n"), (31, 28));
+    assert_eq!(load(b"nodes=1\nkind=21\nfrom=0\nto=0\nflag=0\nkids=1\n"), (3, 35));
+    assert_eq!(load(b"nodes=1\nkind=21\nfrom=0\nto=0\nflag=0\nkids=-\ntext=78\n"), (32, 42));
+    assert_eq!(load(b"nodes=1\nkind=21\nfrom=4294967296\nto=0\n"), (33, 16));
+    assert_eq!(load(b"nodes=1\nkind=21\nfrom=1\nto=0\n"), (33, 23));
+    assert_eq!(load(b"nodes=1\nkind=21\nfrom=1\nto=4294967296\n"), (33, 23));
+    assert_eq!(load(&sheet("21(18!0\"x\")")), (32, 81));
     assert_eq!(load(&sheet("21()")), (4, 0));
     assert_eq!(load(&sheet(r#"21(4(18"a"))"#)), (4, 1));
     assert_eq!(load(&sheet("21(23())")), (5, 0));
@@ -262,12 +269,12 @@ fn a_text_of_a_sheet_may_be_longer_than_a_new_one() {
     assert_eq!(refused(store.change_name(NameId(0), &[b'z'; TEXT_LIMIT + 1])), (8, 255));
 }
 
-/// docs/SHEET.md: the newlines before the place of a refusal 2 or 3, and one, are the number of its line.
+/// docs/SHEET.md: the newlines before the place of a refusal 2, 3 or 31 to 33, and one, are the number of its line.
 #[test]
 fn the_place_of_a_refusal_gives_its_line() {
     let line = |bytes: &[u8]| {
         let (number, place) = load(bytes);
-        assert!(matches!(number, 2 | 3), "refused with {number}");
+        assert!(matches!(number, 2 | 3 | 31..=33), "refused with {number}");
         bytes[..place as usize].iter().filter(|&&byte| byte == b'\n').count() + 1
     };
     let whole = sheet(IDENTITY);

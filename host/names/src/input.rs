@@ -49,7 +49,7 @@ pub fn load(sheet: &[u8]) -> Result<Opened, String> {
 pub fn refused(refusal: Refusal, sheet: &[u8]) -> String {
     let Refusal { number, place } = refusal;
     match number {
-        2 | 3 => {
+        2 | 3 | 31..=33 => {
             let before = sheet.get(..place as usize).unwrap_or(sheet);
             format!("{refusal} (line {} of the sheet)", before.iter().filter(|&&byte| byte == b'\n').count() + 1)
         }

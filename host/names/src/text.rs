@@ -29,11 +29,14 @@ pub fn count(number: usize, one: &str, many: &str) -> String {
     }
 }
 
+/// A cell with more characters does not widen its column: a text may have as many as a sheet has room for.
+const WIDEST: usize = 255;
+
 /// Rows whose cells stand below each other, two blanks apart; a line each.
 pub fn aligned(rows: &[Vec<String>]) -> Vec<String> {
     let columns = rows.iter().map(Vec::len).max().unwrap_or(0);
-    let width = |column: usize| rows.iter().filter_map(|row| row.get(column)).map(|cell| cell.chars().count()).max().unwrap_or(0);
-    let widths: Vec<usize> = (0..columns).map(width).collect();
+    let cells = |column: usize| rows.iter().filter_map(move |row| row.get(column)).map(|cell| cell.chars().count());
+    let widths: Vec<usize> = (0..columns).map(|column| cells(column).filter(|&width| width <= WIDEST).max().unwrap_or(0)).collect();
     let line = |row: &Vec<String>| {
         let cells: Vec<String> = row.iter().zip(&widths).map(|(cell, &width)| format!("{cell:width$}")).collect();
         cells.join("  ").trim_end().to_string()
@@ -64,5 +67,10 @@ mod tests {
         let rows = [row(["a", "é", "x"]), row(["bbb", "cc", ""]), row(["d"])];
         assert_eq!(aligned(&rows), ["a    é   x", "bbb  cc", "d"]);
         assert!(aligned(&[]).is_empty());
+        let long = "l".repeat(500_000);
+        assert_eq!(
+            aligned(&[row(["a", "b"]), row([&long, "b"]), row(["cc", "b"])]),
+            ["a   b".to_string(), format!("{long}  b"), "cc  b".to_string()]
+        );
     }
 }

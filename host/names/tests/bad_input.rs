@@ -42,6 +42,8 @@ fn sheets_that_are_refused() {
     };
     refused(&["show", "-"], b"nodes=1\nkind:21\n", &form(8, 2));
     refused(&["follow", "-", "0"], b"", &form(0, 1));
+    let flag = "standard input: refused (31): at byte 28 of the sheet a node has a flag that its kind does not have (line 5 of the sheet)";
+    refused(&["show", "-"], b"nodes=1\nkind=21\nfrom=0\nto=0\nflag=1\n", flag);
     let kid = b"nodes=1\nkind=21\nfrom=0\nto=0\nflag=0\nkids=\ntext=\n";
     let sentence = "refused (4): node 0 of the sheet has too few or too many kids";
     let path = file("no-kid.sheet", kid);

@@ -17,6 +17,9 @@ const REPLIES: [usize; 4] = [REPLY, REPLY, REPLY + 1, 64];
 /// How long it is for a second load of one sheet in eight: too short.
 const SHORT: [usize; 3] = [0, REPLY - 1, 4];
 
+/// The refusals that a sheet can meet.
+const NUMBERS: [u32; 10] = [1, 2, 3, 4, 5, 6, 7, 31, 32, 33];
+
 /// So many sheets are loaded into one store, one after the other.
 const EACH: u64 = 500;
 
@@ -47,7 +50,11 @@ fn run_on(threads: usize, damaged: u64, valid: u64, seed: u64) -> Report {
     all.merge(with_big_stack(|| limits(seed)));
     all.differences.print();
     println!("{} sheets, {} differences", all.sheets(), all.differences.count);
-    Report { met: all.met(), differences: all.differences.count, complete: true }
+    let never = all.never();
+    if !never.is_empty() {
+        println!("refusals that never came up: {never:?}");
+    }
+    Report { met: all.met(), differences: all.differences.count, complete: never.is_empty() }
 }
 
 /// So many sheets, each by its number.
@@ -179,6 +186,11 @@ impl Seen {
 
     fn sheets(&self) -> u64 {
         self.numbers.values().sum()
+    }
+
+    /// The refusals that never came up.
+    fn never(&self) -> Vec<u32> {
+        NUMBERS.into_iter().filter(|number| !self.numbers.contains_key(number)).collect()
     }
 
     fn print(&self, family: &str) {

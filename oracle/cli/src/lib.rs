@@ -3,5 +3,6 @@
 pub mod against;
 pub mod examples;
 pub mod refsheet;
+pub mod refusals;
 pub mod sheets;
 pub mod vectors;

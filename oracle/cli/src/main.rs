@@ -4,7 +4,7 @@ use std::io::{Read, Write};
 use std::process::ExitCode;
 
 use canon::Reading;
-use oracle::{against, examples, refsheet, sheets, vectors};
+use oracle::{against, examples, refsheet, refusals, sheets, vectors};
 
 const USAGE: &str = "usage: oracle COMMAND
   check [SHEET]          whether the sheet is accepted: nodes=, or refused= and at=
@@ -17,6 +17,7 @@ const USAGE: &str = "usage: oracle COMMAND
   tree NOTATION          the sheet of a tree in the short notation, as 21(11(28(18\"x\"),18\"x\"))
   valid PRESET SEED      a random valid sheet
   damaged SEED           a damaged sheet; what was done to it goes to standard error
+  refusals SEED COUNT    both checkers on a damaged sheet for each of so many seeds: how often each refusal came
   vectors INPUT OUTPUT   writes some hundred sheets with calls to one file and what comes of each to another
   examples FOLDER        writes the marked examples and lines A to E as sheets, with a table of what refsheet says of them
   against PROGRAM SEED COUNT   runs a program in refsheet's place: on sheets at the limits, then on one for each of so many seeds
@@ -60,6 +61,7 @@ fn run(arguments: &[String]) -> Result<Vec<u8>, String> {
         ["tree", notation] => Ok(sheet::write(&sheet::short::parse(notation)?)),
         ["valid", preset, seed] => sheets::valid(preset, number(seed)?),
         ["damaged", seed] => damaged(number(seed)?),
+        ["refusals", seed, count] => Ok(refusals::refusals(number(seed)?, number(count)?)?.into_bytes()),
         ["vectors", input, output] => write_vectors(input, output),
         ["examples", folder] => write_examples(folder),
         ["against", program, seed, count] => Ok(against::against(program, number(seed)?, number(count)?)?.into_bytes()),

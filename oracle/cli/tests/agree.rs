@@ -1,7 +1,7 @@
 //! Two readings of every rule, held against each other on random sheets: `sheet::check` and `judge` on refusals, the Rust and `reading`
 //! on what an accepted sheet comes to, and two books on scripts of calls.
 
-use std::collections::BTreeSet;
+use std::collections::{BTreeMap, BTreeSet};
 
 use book::{locality, Book, Outcome};
 use canon::{Answer, Facts, Reading};
@@ -57,7 +57,7 @@ fn readings_agree_on_valid_sheets() {
 
 #[test]
 fn checkers_agree_on_damaged_sheets() {
-    let mut numbers = BTreeSet::new();
+    let mut numbers: BTreeMap<u32, usize> = BTreeMap::new();
     for seed in 0..20_000 {
         let (bytes, what) = generate::damaged(seed);
         match checked(&bytes, &format!("damaged {seed}: {what}")) {
@@ -65,11 +65,12 @@ fn checkers_agree_on_damaged_sheets() {
                 both_facts(&nodes, &format!("damaged {seed}: {what}"));
             }
             Err(refusal) => {
-                numbers.insert(refusal.number);
+                *numbers.entry(refusal.number).or_default() += 1;
             }
         }
     }
-    assert_eq!(numbers.into_iter().collect::<Vec<_>>(), [1, 2, 3, 4, 5, 6, 7]);
+    assert_eq!(numbers.keys().copied().collect::<Vec<_>>(), [1, 2, 3, 4, 5, 6, 7, 31, 32, 33]);
+    [3, 31, 32, 33].iter().for_each(|number| assert!(numbers[number] >= 1_000, "{number}: {numbers:?}"));
 }
 
 #[test]

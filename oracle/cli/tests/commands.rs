@@ -37,6 +37,9 @@ fn generated_sheets_are_what_they_say() {
     assert!(printed(&["check"], valid.as_bytes()).starts_with("nodes="));
     let damaged = oracle(&["damaged", "7"], b"");
     assert!(damaged.status.success() && !damaged.stderr.is_empty());
+    let counts = printed(&["refusals", "7", "300"], b"");
+    let sum: u64 = counts.lines().filter_map(|line| line.split_once(": ")?.1.parse::<u64>().ok()).sum();
+    assert!(sum == 300 && counts.starts_with("accepted: ") && counts.contains("\nrefused 33: "), "{counts}");
 }
 
 #[test]
@@ -51,6 +54,10 @@ fn a_random_script_is_one_that_the_book_takes() {
 fn a_refused_sheet() {
     assert_eq!(printed(&["check"], b""), "refused=2\nat=0\n");
     assert_eq!(printed(&["refsheet"], b"nodes=0\n"), "refused=3\nat=0\n");
+    let root = |lines: &str| format!("nodes=1\nkind=21\n{lines}");
+    assert_eq!(printed(&["refsheet"], root("from=0\nto=0\nflag=1\n").as_bytes()), "refused=31\nat=28\n");
+    assert_eq!(printed(&["refsheet"], root("from=0\nto=0\nflag=0\nkids=-\ntext=78\n").as_bytes()), "refused=32\nat=42\n");
+    assert_eq!(printed(&["refsheet"], root("from=1\nto=0\n").as_bytes()), "refused=33\nat=23\n");
     // A sheet that is itself in order, but longer than refsheet reads.
     let long = printed(&["tree", &format!(r#"21(7"{}")"#, "x".repeat(33_000))], b"");
     assert_eq!(printed(&["refsheet"], long.as_bytes()), "refused=1\nat=0\n");
@@ -87,6 +94,8 @@ fn bad_input_gets_a_message_and_status_1() {
         &["valid", "nonsense", "1"],
         &["valid", "small", "-1"],
         &["damaged", "x"],
+        &["refusals", "1"],
+        &["refusals", "1", "many"],
         &["script", "-", "1", "many"],
         &["vectors", "no/such/folder/in", "no/such/folder/out"],
         &["examples"],

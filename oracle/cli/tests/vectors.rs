@@ -110,7 +110,7 @@ fn numbers_add_up() {
         assert_eq!(output.bytes(said.len()), said, "{title}");
         if said.starts_with(b"refused=") {
             assert!(kinds.is_empty(), "{title}");
-            refused.insert(usize::from(said[8] - b'0'));
+            refused.insert(Reader(&said).number("refused"));
         }
         for &kind in &kinds {
             refused.insert(outcome(&mut output, kind));
@@ -121,7 +121,7 @@ fn numbers_add_up() {
         }
     }
     assert!(output.0.is_empty());
-    assert_eq!(refused.into_iter().collect::<Vec<_>>(), [0, 2, 3, 4, 5, 6, 7, 8, 21, 24, 25, 26, 27]);
+    assert_eq!(refused.into_iter().collect::<Vec<_>>(), [0, 2, 3, 4, 5, 6, 7, 8, 21, 24, 25, 26, 27, 31, 32, 33]);
     assert_eq!(kinds_met.into_iter().collect::<Vec<_>>(), [0, 1, 2, 3]);
     all_that_should_be(&titles);
 }
@@ -133,6 +133,7 @@ fn all_that_should_be(titles: &BTreeSet<&str>) {
     assert!(count("trap: ") >= 4);
     ["line A: ", "line B: ", "line C: ", "line D: ", "line E: "].iter().for_each(|line| assert!(count(line) >= 2, "{line}"));
     (1..=33).for_each(|point| assert!(count(&format!("D{point}: ")) >= 1, "D{point}"));
+    [3, 31, 32, 33].iter().for_each(|number| assert!(count(&format!("values: {number}, ")) >= 1, "{number}"));
     let causes = judge::Cause::all();
     for cause in causes.iter().filter(|cause| **cause != judge::Cause::TooLong) {
         assert_eq!(count(&format!("damaged: {cause:?}, seed ")), 2, "{cause:?}");

@@ -8,6 +8,7 @@
 //! - `preset`: shapes worth testing, the extreme ones built by `extreme`.
 //! - `within`: sheets as large as so many bytes allow, for a program that reads shorter ones.
 //! - `base`, `text_damage`, `node_damage`: what damage starts from, and the damage to a sheet's bytes and to its nodes.
+//! - `wrong`: the values that either writes where they must not be.
 
 mod base;
 mod bind;
@@ -20,6 +21,7 @@ mod rng;
 mod text_damage;
 pub mod tree;
 mod within;
+mod wrong;
 
 pub use base::ZOO;
 pub use extreme::{chain, exactly, exactly_written, nests, over_long};

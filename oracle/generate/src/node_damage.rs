@@ -2,15 +2,15 @@
 //! is not met.
 
 use crate::base::{any_flag, any_kind, any_text, node_of_kind, spot, valid};
-use crate::extreme;
 use crate::rng::Rng;
 use crate::tree::{Pointers, Tree};
+use crate::{extreme, wrong};
 use sheet::{kind::*, Node, MAX_ATTRS, MAX_DEPTH, MAX_NODES};
 
 /// One way to damage nodes, and what it does.
 type Damage = (&'static str, fn(&mut Rng, &mut Vec<Node>));
 
-const DAMAGES: [Damage; 21] = [
+const DAMAGES: [Damage; 25] = [
     ("a kid is missing", |rng, nodes| on_kind(rng, nodes, |rng, kids, _| drop_one(rng, kids))),
     ("all kids are missing", |rng, nodes| on_kind(rng, nodes, |_, kids, _| kids.clear())),
     ("a kid more", |rng, nodes| on_kind(rng, nodes, add_kid)),
@@ -41,6 +41,17 @@ const DAMAGES: [Damage; 21] = [
     ("another flag", |rng, nodes| at_kind(rng, nodes, |rng, node| node.flag = any_flag(rng))),
     ("another text", |rng, nodes| at_kind(rng, nodes, |rng, node| node.text = any_text(rng))),
     ("from and to are exchanged", |rng, nodes| at_kind(rng, nodes, |_, node| std::mem::swap(&mut node.from, &mut node.to))),
+    ("a flag against its kind's rule", |rng, nodes| at_kind(rng, nodes, |rng, node| node.flag = wrong::flag(rng, node.kind))),
+    ("a text against its kind's rule", |rng, nodes| at_kind(rng, nodes, wrong_text)),
+    ("wrong values beside wrong kids", |rng, nodes| {
+        at_kind(rng, nodes, wrong_value);
+        on_any(rng, nodes, |rng, kids, count| if rng.chance(50) { kids.push(None) } else { other_kid(rng, kids, count) });
+    }),
+    ("wrong values in nodes that nobody has", |rng, nodes| {
+        let met = nodes.len();
+        add_unmet(rng, nodes);
+        nodes[met..].iter_mut().for_each(|node| wrong_value(rng, node));
+    }),
 ];
 
 /// A sheet written from damaged nodes, and what the damage is. Now and then there are two damages, and some sheets are still valid.
@@ -66,10 +77,31 @@ fn on_kind(rng: &mut Rng, nodes: &mut Vec<Node>, damage: fn(&mut Rng, &mut Vec<O
     damage(rng, &mut nodes[node].kids, count);
 }
 
+/// Damages the kids of any node.
+fn on_any(rng: &mut Rng, nodes: &mut [Node], damage: fn(&mut Rng, &mut Vec<Option<u32>>, usize)) {
+    let (node, count) = (spot(rng, nodes.len()), nodes.len());
+    damage(rng, &mut nodes[node].kids, count);
+}
+
 fn at_kind(rng: &mut Rng, nodes: &mut Vec<Node>, damage: fn(&mut Rng, &mut Node)) {
     let kind = if rng.chance(50) { any_kind(rng) } else { rng.pick(&[FLOAT, INTEGER, BIN_OP, ATTR_SET, UNARY_OP, IDENT, PATTERN]) };
     let node = node_of_kind(rng, nodes, kind);
     damage(rng, &mut nodes[node]);
+}
+
+fn wrong_text(rng: &mut Rng, node: &mut Node) {
+    if let Some(text) = wrong::text(rng, node.kind, node.flag) {
+        node.text = text;
+    }
+}
+
+/// Gives a node a flag, a text or a place that it must not have. A text that may be any stays.
+fn wrong_value(rng: &mut Rng, node: &mut Node) {
+    match rng.below(3) {
+        0 => node.flag = wrong::flag(rng, node.kind),
+        1 => wrong_text(rng, node),
+        _ => (node.from, node.to) = (node.to.max(1), node.from.min(node.to.saturating_sub(1))),
+    }
 }
 
 fn drop_one(rng: &mut Rng, kids: &mut Vec<Option<u32>>) {

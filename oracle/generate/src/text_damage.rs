@@ -2,7 +2,8 @@
 
 use crate::base::{any_flag, any_kind, any_text, node_of_kind, spot, valid};
 use crate::rng::Rng;
-use crate::{extreme, node_damage};
+use crate::{extreme, node_damage, wrong};
+use sheet::kind::{FLOAT, IDENT, INTEGER};
 use sheet::{MAX_BYTES, MAX_NODES};
 
 /// A sheet as it is damaged: its lines, each with its line end.
@@ -12,8 +13,16 @@ type Damage = (&'static str, fn(&mut Rng, &mut Lines));
 
 /// The keys of a node's six lines.
 const KEYS: [&str; 6] = ["kind=", "from=", "to=", "flag=", "kids=", "text="];
+/// These lines by their number in a node.
+const KIND: usize = 0;
+const FROM: usize = 1;
+const TO: usize = 2;
+const FLAG: usize = 3;
+const KIDS: usize = 4;
+const TEXT: usize = 5;
+const ALL: [usize; 6] = [KIND, FROM, TO, FLAG, KIDS, TEXT];
 
-const DAMAGES: [Damage; 36] = [
+const DAMAGES: [Damage; 43] = [
     ("a bit is flipped", |rng, lines| change_byte(rng, lines, |rng, byte| byte ^ (1 << rng.below(8)))),
     ("a byte is changed", |rng, lines| change_byte(rng, lines, |rng, _| rng.draw() as u8)),
     ("a byte becomes NUL", |rng, lines| change_byte(rng, lines, |_, _| 0)),
@@ -59,6 +68,21 @@ const DAMAGES: [Damage; 36] = [
     ("another flag for a kind", |rng, lines| on_kind(rng, lines, 3, |rng| any_flag(rng).to_string())),
     ("another text for a kind", |rng, lines| on_kind(rng, lines, 5, |rng| hex(&any_text(rng)))),
     ("another kid", other_kid),
+    ("a flag against its kind's rule", |rng, lines| at_one(rng, lines, &[FLAG])),
+    ("a text against its kind's rule", |rng, lines| at_one(rng, lines, &[TEXT])),
+    ("a flag and a text that do not go together", flag_against_text),
+    ("a from or a to against its rule", |rng, lines| at_one(rng, lines, &[FROM, TO])),
+    ("wrong values in one node", |rng, lines| {
+        let node = one(rng, lines);
+        (0..rng.between(2, 4)).for_each(|_| wrong_value(rng, lines, node, &ALL));
+    }),
+    ("wrong values in many nodes", |rng, lines| {
+        for _ in 0..rng.between(2, 4) {
+            let node = spot(rng, count(lines));
+            wrong_value(rng, lines, node, &ALL);
+        }
+    }),
+    ("a wrong value in a node that nobody has", wrong_unmet),
     ("no sheet but other bytes", other_bytes),
     ("at or over the longest", longest),
 ];
@@ -255,13 +279,84 @@ fn other_count(rng: &mut Rng, lines: &mut Lines) {
     set_nodes(lines, &other.to_string());
 }
 
-/// Writes a value for a node of a kind by chance.
-fn on_kind(rng: &mut Rng, lines: &mut Lines, field: usize, value: fn(&mut Rng) -> String) {
+/// A node of a kind by chance, those with a flag or a text of their own more often, in the lines of another sheet.
+fn other_sheet(rng: &mut Rng, lines: &mut Lines) -> usize {
     let kind = if rng.chance(50) { any_kind(rng) } else { rng.pick(&[8, 9, 14, 16, 17, 18, 29]) };
+    sheet_with(rng, lines, kind)
+}
+
+/// A node of this kind in the lines of another sheet.
+fn sheet_with(rng: &mut Rng, lines: &mut Lines, kind: u8) -> usize {
     let mut nodes = valid(rng);
     let node = node_of_kind(rng, &mut nodes, kind);
     *lines = self::lines(&sheet::write(&nodes));
+    node
+}
+
+/// Writes a value for a node of a kind by chance.
+fn on_kind(rng: &mut Rng, lines: &mut Lines, field: usize, value: fn(&mut Rng) -> String) {
+    let node = other_sheet(rng, lines);
     set_line(lines, node, field, &value(rng));
+}
+
+/// A node of these lines or of others.
+fn one(rng: &mut Rng, lines: &mut Lines) -> usize {
+    match rng.chance(30) {
+        true => spot(rng, count(lines)),
+        false => other_sheet(rng, lines),
+    }
+}
+
+fn at_one(rng: &mut Rng, lines: &mut Lines, fields: &[usize]) {
+    let node = one(rng, lines);
+    wrong_value(rng, lines, node, fields);
+}
+
+/// The number that a node's line has, where it has one that is small enough.
+fn number(lines: &Lines, node: usize, field: usize) -> Option<u32> {
+    let line = String::from_utf8_lossy(lines.get(1 + 6 * node + field)?);
+    line.strip_prefix(KEYS[field])?.trim_end().parse().ok()
+}
+
+/// Writes a value into one of these lines of a node that it must not have there. A text that may be any stays.
+fn wrong_value(rng: &mut Rng, lines: &mut Lines, node: usize, fields: &[usize]) {
+    let read = |field| number(lines, node, field).unwrap_or(0);
+    let (kind, flag) = (read(KIND) as u8, read(FLAG) as u8);
+    let field = rng.pick(fields);
+    let value = match field {
+        KIND => Some(wrong::kind(rng)),
+        FROM => Some(wrong::from(rng, read(TO))),
+        TO => Some(wrong::to(rng, read(FROM))),
+        FLAG => Some(wrong::written_flag(rng, kind)),
+        KIDS => Some(wrong::kids(rng, count(lines))),
+        _ => wrong::text(rng, kind, flag).map(|text| hex(&text)),
+    };
+    if let Some(value) = value {
+        set_line(lines, node, field, &value);
+    }
+}
+
+/// A flag that is right by itself, and a text that is not right with it.
+fn flag_against_text(rng: &mut Rng, lines: &mut Lines) {
+    let ident = [(IDENT, "0", "78"), (IDENT, "0", "00")];
+    let float = [(FLOAT, "0", "3ff0000000000000"), (FLOAT, "1", ""), (FLOAT, "1", "7ff0000000000001")];
+    let (kind, flag, text) = rng.pick(&[&ident[..], &float[..], &[(INTEGER, "0", "")]].concat());
+    let node = sheet_with(rng, lines, kind);
+    set_line(lines, node, FLAG, flag);
+    set_line(lines, node, TEXT, text);
+}
+
+/// One node more, which is no kid of another, and its lines are wrong or its kids.
+fn wrong_unmet(rng: &mut Rng, lines: &mut Lines) {
+    let node = count(lines);
+    let more = rng.pick(&["kind=15\nfrom=0\nto=0\nflag=0\nkids=-\ntext=\n", "kind=18\nfrom=3\nto=4\nflag=0\nkids=\ntext=\n"]);
+    lines.truncate(1 + 6 * node);
+    lines.extend(self::lines(more.as_bytes()));
+    set_nodes(lines, &(node + 1).to_string());
+    if rng.chance(30) {
+        set_line(lines, node, KIDS, rng.pick(&["", "-,-", "0", "1,-"]));
+    }
+    wrong_value(rng, lines, node, &[FROM, TO, FLAG, FLAG, TEXT, TEXT]);
 }
 
 fn other_kid(rng: &mut Rng, lines: &mut Lines) {

@@ -8,6 +8,9 @@ use judge::{judge, Cause, Judgement};
 use sheet::{kind::*, Node};
 use std::collections::{BTreeMap, BTreeSet};
 
+/// The refusals of a wrong value.
+const VALUES: [u32; 4] = [3, 31, 32, 33];
+
 /// How often each cause comes up, and the relative place of the nodes that 4 to 7 name: first, in between, last.
 struct Tally {
     causes: BTreeMap<Cause, usize>,
@@ -43,7 +46,12 @@ fn missing(tally: &Tally, wanted: impl Iterator<Item = Cause>) -> Vec<Cause> {
 fn damage_reaches_every_cause() {
     let tally = tally(damaged, 40_000);
     assert_eq!(missing(&tally, Cause::all().into_iter()), []);
-    (1..=7).for_each(|number| assert!(tally.numbers[&number] >= 100, "{number}: {:?}", tally.numbers));
+    assert_eq!(tally.numbers.keys().copied().collect::<Vec<_>>(), [1, 2, 3, 4, 5, 6, 7, 31, 32, 33]);
+    tally.numbers.values().for_each(|&count| assert!(count >= 100, "{:?}", tally.numbers));
+    VALUES.iter().for_each(|number| assert!(tally.numbers[number] >= 2_000, "{number}: {:?}", tally.numbers));
+    // So that short runs meet every rule of a flag, a text and a range too.
+    let values = tally.causes.iter().filter(|(cause, _)| VALUES.contains(&cause.number()));
+    values.for_each(|(cause, &count)| assert!(count >= 100, "{cause:?}: {count}"));
     // Some damage leaves a valid sheet, but no kind of damage always does.
     assert!(tally.accepted < 10_000, "{}", tally.accepted);
     for (what, numbers) in &tally.damages {
@@ -51,8 +59,22 @@ fn damage_reaches_every_cause() {
     }
 }
 
+/// Of two wrong lines the first decides. Each of 2, 3, 31, 32 and 33 stands before each other one.
 #[test]
-fn damage_to_nodes_reaches_every_cause_from_3_to_7() {
+fn wrong_lines_meet_each_other() {
+    let mut met = BTreeSet::new();
+    for (bytes, _) in (0..10_000).map(damaged) {
+        let violations = judge::violations(&bytes);
+        let Some(least) = violations.iter().min_by_key(|violation| violation.order) else { continue };
+        met.extend(violations.iter().map(|violation| [least, violation].map(|one| one.judgement.refusal.number)));
+    }
+    for (first, later) in [2, 3, 31, 32, 33].into_iter().flat_map(|first| [2, 3, 31, 32, 33].map(|later| (first, later))) {
+        assert!(met.contains(&[first, later]), "{first} before {later}");
+    }
+}
+
+#[test]
+fn damage_to_nodes_reaches_every_wrong_value_and_4_to_7() {
     let tally = tally(structural, 30_000);
     let unreachable = [Cause::KindRange, Cause::FromRange, Cause::ToRange];
     let wanted =
@@ -60,7 +82,8 @@ fn damage_to_nodes_reaches_every_cause_from_3_to_7() {
     let wanted =
         wanted.filter(|cause| !matches!(cause, Cause::MissingLine(_) | Cause::WrongKey(_) | Cause::BadForm(_) | Cause::NoLineEnd(_)));
     assert_eq!(missing(&tally, wanted), []);
-    assert_eq!(tally.numbers.keys().copied().collect::<Vec<_>>(), [3, 4, 5, 6, 7]);
+    assert_eq!(tally.numbers.keys().copied().collect::<Vec<_>>(), [3, 4, 5, 6, 7, 31, 32, 33]);
+    VALUES.iter().for_each(|number| assert!(tally.numbers[number] >= 1_000, "{number}: {:?}", tally.numbers));
 }
 
 /// Where a refusal's place lies: at the first line or node, at the last one, past the end or in between.
@@ -68,7 +91,7 @@ fn spot(bytes: &[u8], number: u32, place: usize) -> &'static str {
     let whole = bytes.len().saturating_sub(1);
     let last_line = bytes[..whole].iter().rposition(|&byte| byte == b'\n').map_or(0, |at| at + 1);
     let last_node = (bytes.split(|&byte| byte == b'\n').count() / 6).saturating_sub(1);
-    let (last, end) = if number <= 3 { (last_line, bytes.len()) } else { (last_node, last_node + 1) };
+    let (last, end) = if (4..=7).contains(&number) { (last_node, last_node + 1) } else { (last_line, bytes.len()) };
     match place {
         0 => "first",
         place if place == last => "last",
@@ -85,15 +108,16 @@ fn damage_strikes_everywhere() {
             spots.insert((refusal.number, spot(&bytes, refusal.number, refusal.place as usize)));
         }
     }
-    for number in 2..=5 {
+    for number in [2, 4, 5] {
         ["first", "between", "last"].iter().for_each(|&spot| assert!(spots.contains(&(number, spot)), "{number} {spot}"));
     }
-    for wanted in [(2, "end"), (6, "between"), (7, "between"), (7, "last")] {
+    let lines = [(2, "end"), (3, "first"), (3, "between"), (31, "between"), (32, "between"), (32, "last"), (33, "between")];
+    for wanted in lines.into_iter().chain([(6, "between"), (7, "between"), (7, "last")]) {
         assert!(spots.contains(&wanted), "{wanted:?}");
     }
 }
 
-/// Lines are read forward: with 2 or 3 nothing behind the line that decides matters.
+/// Lines are read forward: with 2 or a wrong value nothing behind the line that decides matters.
 #[test]
 fn what_follows_the_deciding_line_does_not_matter() {
     let mut compared = 0;
@@ -105,7 +129,7 @@ fn what_follows_the_deciding_line_does_not_matter() {
         }
         let place = judgement.refusal.place as usize;
         let end = bytes[place..].iter().position(|&byte| byte == b'\n').map(|length| place + length + 1);
-        let Some(end) = end.filter(|_| matches!(judgement.refusal.number, 2 | 3)) else {
+        let Some(end) = end.filter(|_| judgement.refusal.number == 2 || VALUES.contains(&judgement.refusal.number)) else {
             continue;
         };
         for follows in [&b""[..], b"\n", b"kind=", b"\0\xff", b"nodes=1\nkind=21\n"] {
@@ -132,7 +156,7 @@ fn a_node_more_does_not_matter_to_the_walk() {
         let after = judge(&more).map_err(|judgement| (judgement.refusal.number, judgement.refusal.place));
         match judge(&bytes).map_err(|judgement| (judgement.refusal.number, judgement.refusal.place)) {
             Ok(_) => assert_eq!(after, Err((7, count as u32)), "{seed}: {what}"),
-            Err(before) if before.0 >= 4 => assert_eq!(after, Err(before), "{seed}: {what}"),
+            Err(before) if (4..=7).contains(&before.0) => assert_eq!(after, Err(before), "{seed}: {what}"),
             // A kid that was out of range may be in range now.
             Err(_) => {}
         }

@@ -79,16 +79,25 @@ pub enum Cause {
     Trailing,
     /// 3
     NodesRange,
+    /// 3
     KindRange,
+    /// 3
     RootKind,
+    /// 33
     FromRange,
+    /// 33
     ToRange,
+    /// 33, at the `to` line.
     FromAboveTo,
+    /// 31
     FlagRule(FlagFamily),
+    /// 3
     KidRange,
+    /// 32
     TextRule(TextFault),
     /// 4
     TooFewKids(u8),
+    /// 4
     TooManyKids(u8),
     /// 5: an item of a list is absent.
     AbsentItem(Place),
@@ -103,6 +112,22 @@ pub enum Cause {
 }
 
 impl Cause {
+    /// The number of the refusal that it is.
+    pub fn number(self) -> u32 {
+        match self {
+            Cause::TooLong => 1,
+            Cause::MissingLine(_) | Cause::WrongKey(_) | Cause::BadForm(_) | Cause::NoLineEnd(_) | Cause::Trailing => 2,
+            Cause::NodesRange | Cause::KindRange | Cause::RootKind | Cause::KidRange => 3,
+            Cause::TooFewKids(_) | Cause::TooManyKids(_) => 4,
+            Cause::AbsentItem(_) | Cause::KidOrder | Cause::KidKind(_) => 5,
+            Cause::Depth => 6,
+            Cause::Unmet => 7,
+            Cause::FlagRule(_) => 31,
+            Cause::TextRule(_) => 32,
+            Cause::FromRange | Cause::ToRange | Cause::FromAboveTo => 33,
+        }
+    }
+
     /// Every cause that a sheet can have.
     pub fn all() -> Vec<Cause> {
         use Cause::*;

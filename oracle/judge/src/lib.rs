@@ -1,10 +1,10 @@
-//! The refusals 1 to 7 of document 01, said as rules: every violation of a sheet is collected, each with its place in the order of
-//! checks, and the least one is the answer. Nothing here stops at the first fault; only the order says which fault decides.
+//! The refusals 1 to 7 and 31 to 33 of docs/RULES.md, said as rules: every violation of a sheet is collected, each with its place in the
+//! order of checks, and the least one is the answer. Nothing here stops at the first fault; only the order says which fault decides.
 //!
 //! - `grammar`: what each kind's flag, text and kids may be.
-//! - `lines`: the rules of single lines, refusals 2 and 3.
+//! - `lines`: the rules of single lines, refusals 2, 3 and 31 to 33.
 //! - `tree`: the rules of the walk and of what it does not meet, refusals 4 to 7.
-//! - `cause`: a name for each way to be refused, so that tests can count which ones were reached.
+//! - `cause`: a name for each way to be refused, with its number, so that tests can count which ones were reached.
 
 mod cause;
 pub mod grammar;
@@ -21,8 +21,8 @@ pub struct Judgement {
     pub cause: Cause,
 }
 
-/// Where a violation stands in the order of checks; the least decides. Lines are ordered by number and then 2 before 3; steps of the
-/// walk by their number and then 5 and 6 of the kid before 4 of what is met there.
+/// Where a violation stands in the order of checks; the least decides. Lines are ordered by number and then 2 before a wrong value;
+/// steps of the walk by their number and then 5 and 6 of the kid before 4 of what is met there.
 #[derive(Debug, Clone, Copy, PartialEq, Eq, PartialOrd, Ord)]
 pub enum Order {
     Length,
@@ -39,14 +39,14 @@ pub struct Violation {
 }
 
 impl Violation {
-    fn new(order: Order, number: u32, place: usize, cause: Cause) -> Self {
+    fn new(order: Order, place: usize, cause: Cause) -> Self {
         // A place is at most a sheet's length, and no sheet that is looked into is longer than a megabyte.
         let place = u32::try_from(place).unwrap_or(u32::MAX);
-        Violation { order, judgement: Judgement { refusal: Refusal { number, place }, cause } }
+        Violation { order, judgement: Judgement { refusal: Refusal { number: cause.number(), place }, cause } }
     }
 }
 
-/// The sheet's nodes, or the refusal that document 01 gives for it.
+/// The sheet's nodes, or the refusal that docs/RULES.md gives for it.
 pub fn judge(bytes: &[u8]) -> Result<Vec<Node>, Judgement> {
     let (nodes, violations) = examine(bytes);
     match violations.iter().min_by_key(|violation| violation.order) {
@@ -63,7 +63,7 @@ pub fn violations(bytes: &[u8]) -> Vec<Violation> {
 
 fn examine(bytes: &[u8]) -> (Vec<Node>, Vec<Violation>) {
     if bytes.len() > sheet::MAX_BYTES {
-        return (Vec::new(), vec![Violation::new(Order::Length, 1, 0, Cause::TooLong)]);
+        return (Vec::new(), vec![Violation::new(Order::Length, 0, Cause::TooLong)]);
     }
     match lines::nodes(bytes) {
         Ok(nodes) => {

@@ -1,4 +1,4 @@
-//! The rules of single lines: refusal 2 for a line's key, form and end, refusal 3 for its value.
+//! The rules of single lines: refusal 2 for a line's key, form and end, refusals 3 and 31 to 33 for its value.
 
 use crate::{grammar, Cause, Line, Order, Violation};
 use sheet::Node;
@@ -52,7 +52,7 @@ impl<'a> Lines<'a> {
         if (1..=sheet::MAX_NODES).contains(&count) {
             Ok(count)
         } else {
-            Err(Violation::new(Order::Line { line: 0, check: 3 }, 3, 0, Cause::NodesRange))
+            Err(Violation::new(Order::Line { line: 0, check: 3 }, 0, Cause::NodesRange))
         }
     }
 
@@ -72,18 +72,18 @@ impl<'a> Lines<'a> {
                 Some(_) => None,
             },
         };
-        cause.map(|cause| Violation::new(Order::Line { line: number, check: 2 }, 2, self.place(number), cause))
+        cause.map(|cause| Violation::new(Order::Line { line: number, check: 2 }, self.place(number), cause))
     }
 
     /// Bytes after the last line of the last node.
     fn trailing(&self, count: usize) -> Option<Violation> {
         let line = line_number(Line::Kind, count);
         let found = self.found.get(line)?;
-        Some(Violation::new(Order::Line { line, check: 2 }, 2, found.start, Cause::Trailing))
+        Some(Violation::new(Order::Line { line, check: 2 }, found.start, Cause::Trailing))
     }
 
-    /// The violation of refusal 3 by this line of this node. A line without its form has no value, and a value that another line is
-    /// needed for is only judged where that line is in order: that line comes first and decides by itself.
+    /// The wrong value of this line of this node: refusal 3 or 31 to 33. A line without its form has no value, and a value that another line
+    /// is needed for is only judged where that line is in order: that line comes first and decides by itself.
     fn value_fault(&self, line: Line, node: usize, count: usize) -> Option<Violation> {
         let cause = match line {
             Line::Nodes => None,
@@ -101,7 +101,7 @@ impl<'a> Lines<'a> {
             }
         }?;
         let number = line_number(line, node);
-        Some(Violation::new(Order::Line { line: number, check: 3 }, 3, self.place(number), cause))
+        Some(Violation::new(Order::Line { line: number, check: 3 }, self.place(number), cause))
     }
 
     fn above(&self, line: Line, node: usize, most: u64, cause: Cause) -> Option<Cause> {

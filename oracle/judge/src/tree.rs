@@ -27,13 +27,13 @@ pub fn violations(nodes: &[Node]) -> Vec<Violation> {
     for (number, step) in steps.iter().enumerate() {
         let order = |check| Order::Step { step: number, check };
         if let Some((parent, index)) = step.parent {
-            violations.extend(kid_fault(nodes, step, parent, index).map(|cause| Violation::new(order(5), 5, parent, cause)));
+            violations.extend(kid_fault(nodes, step, parent, index).map(|cause| Violation::new(order(5), parent, cause)));
             let too_deep = step.kid.is_some() && step.depth > sheet::MAX_DEPTH;
-            violations.extend(too_deep.then(|| Violation::new(order(6), 6, parent, Cause::Depth)));
+            violations.extend(too_deep.then(|| Violation::new(order(6), parent, Cause::Depth)));
         }
         // What is met at a step comes after the step's own faults: the kid's count is the first thing inside the kid.
         let counted = step.in_order().and_then(|node| Some((node, count_fault(nodes.get(node)?)?)));
-        violations.extend(counted.map(|(node, cause)| Violation::new(order(7), 4, node, cause)));
+        violations.extend(counted.map(|(node, cause)| Violation::new(order(7), node, cause)));
     }
     violations.extend(unmet(nodes, &steps));
     violations
@@ -92,5 +92,5 @@ fn unmet(nodes: &[Node], steps: &[Step]) -> Vec<Violation> {
         }
     }
     let unmet = met.iter().enumerate().filter(|(_, &met)| !met);
-    unmet.map(|(node, _)| Violation::new(Order::Unmet { node }, 7, node, Cause::Unmet)).collect()
+    unmet.map(|(node, _)| Violation::new(Order::Unmet { node }, node, Cause::Unmet)).collect()
 }

@@ -75,12 +75,12 @@ fn pointers_to_4294967295() {
     let valid = |from, to| judge(&root(["21", from, to, "0", "-", ""])).is_ok();
     assert!(valid("0", "0") && valid("0", "4294967295") && valid("4294967295", "4294967295"));
     let refused = |from, to| refused(&root(["21", from, to, "0", "-", ""]));
-    assert_eq!(refused("4294967296", "4294967296"), (3, 16, Cause::FromRange));
-    assert_eq!(refused("4294967296", "0"), (3, 16, Cause::FromRange));
-    assert_eq!(refused("0", "4294967296"), (3, 23, Cause::ToRange));
-    assert_eq!(refused("0", "18446744073709551616"), (3, 23, Cause::ToRange));
-    assert_eq!(refused("1", "0"), (3, 23, Cause::FromAboveTo));
-    assert_eq!(refused("4294967295", "4294967294"), (3, 32, Cause::FromAboveTo));
+    assert_eq!(refused("4294967296", "4294967296"), (33, 16, Cause::FromRange));
+    assert_eq!(refused("4294967296", "0"), (33, 16, Cause::FromRange));
+    assert_eq!(refused("0", "4294967296"), (33, 23, Cause::ToRange));
+    assert_eq!(refused("0", "18446744073709551616"), (33, 23, Cause::ToRange));
+    assert_eq!(refused("1", "0"), (33, 23, Cause::FromAboveTo));
+    assert_eq!(refused("4294967295", "4294967294"), (33, 32, Cause::FromAboveTo));
 }
 
 #[test]
@@ -95,10 +95,10 @@ fn floats_to_infinity() {
         "\\xff\\xff\\xff\\xff\\xff\\xff\\xff\\xff",
     ];
     for text in above {
-        assert_eq!(refused(&float(text)), (3, place(&float(text)), Cause::TextRule(TextFault::FloatBits)), "{text}");
+        assert_eq!(refused(&float(text)), (32, place(&float(text)), Cause::TextRule(TextFault::FloatBits)), "{text}");
     }
     for text in ["", "\\x00", "1234567", "123456789"] {
-        assert_eq!(refused(&float(text)), (3, place(&float(text)), Cause::TextRule(TextFault::FloatLength)), "{text}");
+        assert_eq!(refused(&float(text)), (32, place(&float(text)), Cause::TextRule(TextFault::FloatLength)), "{text}");
     }
     assert!(judge(&written("21(8)")).is_ok());
     assert_eq!(refused(&written("21(8!0\"12345678\")")).2, Cause::TextRule(TextFault::FloatFlagless));
@@ -139,7 +139,7 @@ fn flags_of_every_kind() {
         let place = line_start(&flag_line("0"), 10);
         let is_refused = |flag: &str| {
             let (number, at, cause) = refused(&flag_line(flag));
-            (number, at) == (3, place) && matches!(cause, Cause::FlagRule(_))
+            (number, at) == (31, place) && matches!(cause, Cause::FlagRule(_))
         };
         (0..=most).for_each(|flag| assert!(!is_refused(&flag.to_string()), "{kind} {flag}"));
         for flag in [most + 1, 16, 255, 256, 257, 4_294_967_296_u64] {
@@ -172,13 +172,13 @@ fn kinds_from_1_to_33() {
 fn numbers_do_not_wrap() {
     let above =
         |value: u128| [value + (1 << 32), value + (1 << 64)].map(|value| value.to_string()).into_iter().chain([format!("1{value:064}")]);
-    let lines = [("21", 8), ("0", 16), ("0", 23), ("0", 28)];
-    for (line, (value, place)) in lines.into_iter().enumerate() {
+    let lines = [("21", 3, 8), ("0", 33, 16), ("0", 33, 23), ("0", 31, 28)];
+    for (line, (value, refusal, place)) in lines.into_iter().enumerate() {
         for wrapped in above(value.parse().unwrap_or(0)) {
             let mut values = ["21", "0", "0", "0", "-", ""];
             values[line] = &wrapped;
             let (number, at, _) = refused(&root(values));
-            assert_eq!((number, at), (3, place), "{values:?}");
+            assert_eq!((number, at), (refusal, place), "{values:?}");
         }
     }
     for wrapped in above(1) {

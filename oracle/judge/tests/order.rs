@@ -1,6 +1,6 @@
 //! Which of several faults decides, and with what place.
 
-use judge::{judge, violations, Cause, Line, TextFault};
+use judge::{judge, violations, Cause, FlagFamily, Line, TextFault};
 use sheet::{short, Node};
 
 fn nodes(notation: &str) -> Vec<Node> {
@@ -29,7 +29,7 @@ fn sheet_with(changes: &[(usize, &str)]) -> (Vec<u8>, Vec<u32>) {
 }
 
 #[test]
-fn on_a_line_2_is_before_3() {
+fn on_a_line_2_is_before_a_wrong_value() {
     let cases = [
         (0, "nodes=04097", Line::Nodes),
         (1, "kind=034", Line::Kind),
@@ -51,9 +51,8 @@ fn on_a_line_2_is_before_3() {
 fn the_first_line_at_fault_decides() {
     let faults =
         [(1, "kind=34"), (2, "from=x"), (3, "to=4294967296"), (4, "flag="), (5, "kids=2"), (6, "text=6"), (7, "kind=0"), (8, "fro=0")];
-    for first in 0..faults.len() {
+    for (first, number) in [3, 2, 33, 2, 3, 2, 3, 2].into_iter().enumerate() {
         let (sheet, starts) = sheet_with(&faults[first..]);
-        let number = if first % 2 == 0 { 3 } else { 2 };
         let (found, place, _) = refused_bytes(&sheet);
         assert_eq!((found, place), (number, starts[faults[first].0]), "{first}");
     }
@@ -69,8 +68,8 @@ fn a_refused_nodes_line_decides_at_once() {
 #[test]
 fn from_above_to_counts_at_the_to_line() {
     let (sheet, starts) = sheet_with(&[(2, "from=10"), (4, "flag=1")]);
-    assert_eq!(refused_bytes(&sheet), (3, starts[3], Cause::FromAboveTo));
-    // A `to` without its form is 2 there, and the same line out of range is 3 for itself.
+    assert_eq!(refused_bytes(&sheet), (33, starts[3], Cause::FromAboveTo));
+    // A `to` without its form is 2 there.
     let (sheet, starts) = sheet_with(&[(2, "from=10"), (3, "to=09")]);
     assert_eq!(refused_bytes(&sheet), (2, starts[3], Cause::BadForm(Line::To)));
 }
@@ -78,9 +77,9 @@ fn from_above_to_counts_at_the_to_line() {
 #[test]
 fn flag_and_text_rules_follow_the_kind() {
     let (sheet, starts) = sheet_with(&[(7, "kind=9")]);
-    assert_eq!(refused_bytes(&sheet).1, starts[10]);
+    assert_eq!(refused_bytes(&sheet), (31, starts[10], Cause::FlagRule(FlagFamily::Flagless)));
     let (sheet, starts) = sheet_with(&[(7, "kind=9"), (10, "flag=0")]);
-    assert_eq!(refused_bytes(&sheet), (3, starts[12], Cause::TextRule(TextFault::IntegerNoDigit)));
+    assert_eq!(refused_bytes(&sheet), (32, starts[12], Cause::TextRule(TextFault::IntegerNoDigit)));
 }
 
 #[test]
@@ -102,7 +101,7 @@ fn lines_are_before_the_walk() {
     assert_eq!(refused(&nodes), (4, 0, Cause::TooFewKids(21)));
     nodes[3].flag = 2;
     let (number, _, cause) = refused(&nodes);
-    assert!(number == 3 && matches!(cause, Cause::FlagRule(_)));
+    assert!(number == 31 && matches!(cause, Cause::FlagRule(_)));
 }
 
 #[test]

@@ -1,4 +1,4 @@
-//! Refusals 1 to 7, read forward as document 01 tells them: the lines first, then the walk of the tree.
+//! Refusals 1 to 7 and 31 to 33, read forward as docs/RULES.md tells them: the lines first, then the walk of the tree.
 //!
 //! `check` stops at the first thing that is wrong. (The crate `judge` reads the same rules the other way round: it lists all that is
 //! wrong and takes the least.)
@@ -20,7 +20,17 @@ fn refuse<T>(number: u32, place: usize) -> Result<T, Refusal> {
     Err(Refusal { number, place: place as u32 })
 }
 
-// ---- The lines: refusals 2 and 3
+// ---- The lines: refusals 2, 3 and 31 to 33
+
+// The refusals of a value that has its form and is wrong, by its line.
+/// On `nodes=`, `kind=` and `kids=`.
+const VALUE: u32 = 3;
+/// On `flag=`.
+const FLAG: u32 = 31;
+/// On `text=`.
+const TEXT: u32 = 32;
+/// On `from=` and `to=`.
+const RANGE: u32 = 33;
 
 /// The line reader: the sheet, the place of the next line, and the place of the line just read.
 struct Lines<'a> {
@@ -64,8 +74,8 @@ impl<'a> Lines<'a> {
         refuse(2, self.line)
     }
 
-    fn outside<T>(&self) -> Result<T, Refusal> {
-        refuse(3, self.line)
+    fn outside<T>(&self, number: u32) -> Result<T, Refusal> {
+        refuse(number, self.line)
     }
 
     fn decimal(&self, digits: &[u8]) -> Result<Decimal, Refusal> {
@@ -79,11 +89,12 @@ impl<'a> Lines<'a> {
         Ok(Decimal::Small(digits.iter().fold(0, |sum, digit| sum * 10 + u64::from(digit - b'0'))))
     }
 
-    fn number(&mut self, key: &str, least: u64, most: u64) -> Result<u64, Refusal> {
+    /// The number of the next line, which is to be from `least` to `most`, or else is refused with `outside`.
+    fn number(&mut self, key: &str, least: u64, most: u64, outside: u32) -> Result<u64, Refusal> {
         let digits = self.value(key)?;
         match self.decimal(digits)?.at_most(most) {
             Some(value) if value >= least => Ok(value),
-            _ => self.outside(),
+            _ => self.outside(outside),
         }
     }
 
@@ -103,7 +114,7 @@ impl<'a> Lines<'a> {
                 None => numbers.push(None),
                 Some(number) => match number.at_most(nodes - 1) {
                     Some(value) => numbers.push(Some(value as u32)),
-                    None => return self.outside(),
+                    None => return self.outside(VALUE),
                 },
             }
         }
@@ -136,7 +147,7 @@ fn nibble(digit: u8) -> Option<u8> {
 
 fn read(bytes: &[u8]) -> Result<Vec<Node>, Refusal> {
     let mut lines = Lines { bytes, next: 0, line: 0 };
-    let count = lines.number("nodes=", 1, MAX_NODES as u64)?;
+    let count = lines.number("nodes=", 1, MAX_NODES as u64, VALUE)?;
     let mut nodes = Vec::new();
     for i in 0..count {
         nodes.push(read_node(&mut lines, i, count)?);
@@ -149,14 +160,14 @@ fn read(bytes: &[u8]) -> Result<Vec<Node>, Refusal> {
 
 fn read_node(lines: &mut Lines, own: u64, count: u64) -> Result<Node, Refusal> {
     let (least, most) = if own == 0 { (21, 21) } else { (1, 33) };
-    let kind = lines.number("kind=", least, most)? as u8;
-    let from = lines.number("from=", 0, u64::from(u32::MAX))?;
-    let to = lines.number("to=", from, u64::from(u32::MAX))?;
-    let flag = lines.number("flag=", 0, u64::from(highest_flag(kind)))? as u8;
+    let kind = lines.number("kind=", least, most, VALUE)? as u8;
+    let from = lines.number("from=", 0, u64::from(u32::MAX), RANGE)?;
+    let to = lines.number("to=", from, u64::from(u32::MAX), RANGE)?;
+    let flag = lines.number("flag=", 0, u64::from(highest_flag(kind)), FLAG)? as u8;
     let kids = lines.kids(count)?;
     let text = lines.text()?;
     if !text_fits(kind, flag, &text) {
-        return lines.outside();
+        return lines.outside(TEXT);
     }
     Ok(Node { kind, from: from as u32, to: to as u32, flag, kids, text })
 }

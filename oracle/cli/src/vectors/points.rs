@@ -102,7 +102,45 @@ fn followed(title: &str, edits: &[(usize, &str)], more: &[u8]) -> Result<Vector,
 
 /// Points on refusals that a tree can't show.
 pub fn sheets() -> Result<Vec<Vector>, String> {
-    Ok([numbers()?, ends()?, unmet()?].concat())
+    Ok([numbers()?, ends()?, unmet()?, values()?].concat())
+}
+
+/// A Root with these lines, and an Ident that is its kid or, where `kids` is `-`, hangs nowhere.
+fn root_and_ident(title: &str, kids: &str, ident: [&str; 5]) -> Vector {
+    let [from, to, flag, own_kids, text] = ident;
+    let root = format!("kind=21\nfrom=0\nto=9\nflag=0\nkids={kids}\ntext=\n");
+    let ident = format!("kind=18\nfrom={from}\nto={to}\nflag={flag}\nkids={own_kids}\ntext={text}\n");
+    Vector::of_sheet(title, format!("nodes=2\n{root}{ident}").into_bytes())
+}
+
+/// What is wrong with a value: 3, 31, 32 and 33, and which of them decides.
+fn values() -> Result<Vec<Vector>, String> {
+    let trees = [
+        ("values: 31, a kind without flags", "21(10!1)"),
+        ("values: 31, a BinOp of flag 16", "21(14!16(-,-))"),
+        ("values: 31, an Ident of flag 2, whatever its text", "21(18!2\"x\")"),
+        ("values: 31, a flag too large before kids too few", "21(15!1)"),
+        ("values: 32, a flag-0 Ident with a text", "21(18!0\"x\")"),
+        ("values: 32, a flag-0 Float with a text", "21(8!0\"12345678\")"),
+        ("values: 32, a flag-1 Float without a text", "21(8!1)"),
+        ("values: 32, an Integer without digits", "21(9)"),
+        ("values: 32, a text where there is none, before a kid too many", "21(10\"x\"(-))"),
+    ];
+    let mut vectors: Vec<Vector> = trees.iter().map(|(title, tree)| Vector::of_tree(*title, tree)).collect::<Result<_, _>>()?;
+    vectors.extend([
+        root_and_ident("values: 31, a flag of twenty digits", "1", ["0", "0", "99999999999999999999", "", "78"]),
+        root_and_ident("values: 31, before a kid's number too large", "1", ["0", "0", "2", "2", "78"]),
+        root_and_ident("values: 31, in a node that is not met", "-", ["0", "0", "2", "-", "78"]),
+        root_and_ident("values: 32, in a node that is not met", "-", ["0", "0", "0", "", "78"]),
+        root_and_ident("values: 33, from above to", "1", ["4", "3", "1", "", "78"]),
+        root_and_ident("values: 33, from above to, before a wrong flag and a wrong text", "1", ["4", "3", "2", "", "7A"]),
+        root_and_ident("values: 33, from too large", "1", ["4294967296", "4294967296", "1", "", "78"]),
+        root_and_ident("values: 33, to too large", "1", ["0", "4294967296", "1", "", "78"]),
+        root_and_ident("values: 33, in a node that is not met", "-", ["1", "0", "1", "", "78"]),
+        root_and_ident("values: 3, a kid's number too large, before a wrong text", "1", ["0", "0", "0", "4294967296", "78"]),
+        root_and_ident("values: 2, a flag with a needless 0", "1", ["0", "0", "01", "", "78"]),
+    ]);
+    Ok(vectors)
 }
 
 fn numbers() -> Result<Vec<Vector>, String> {
