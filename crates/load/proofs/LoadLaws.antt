@@ -11,6 +11,7 @@ use borrow.Author.Tests.{le-ltb, lt-ltb}
 use Rattle.spec.specs.Sheet.{Judged}
 use Rattle.spec.specs.Tree.{judge}
 use Rattle.spec.specs.Calls.{refusal, accepted, replyBytes, loading}
+use Rattle.spec.proofs.reading.Refusals.{refused-place}
 use Rattle.sheet.specs.Sheets.{answer}
 use Rattle.sheet.specs.declared.position.Position.{Position}
 use Rattle.sheet.specs.declared.sheets.SheetRead.{SheetRead}
@@ -21,7 +22,6 @@ use Rattle.replies.specs.Replies.{returned, replyAfter, loadOutcome, Told}
 use Rattle.replies.proofs.ReplyLaws.{reply-short}
 use Rattle.load.specs.Loads.{judgedIn, Leaves}
 use Rattle.load.specs.Filled.{Fills}
-use Rattle.load.proofs.PlaceLaws.{told-whole}
 
 -- the three clauses of a load
 abbrev pub Promise : List ℕ → List ℕ → List ℕ → ℕ → List ℕ → List ℕ → Type 0
@@ -58,14 +58,15 @@ module _ (sheet s p : List ℕ) where
   module _ (long : Long s) (room : replyBytes ≤ length p) (a : SheetRead) (e : a ≡ answer sheet (judge sheet)) where
     pub sheet-refused : (number place : ℕ) {r : ℕ} {q : List ℕ} → a ≡ Refused number place → Told (refusal number (place % 4294967296)) p r q → Promise sheet s p r s q
     unfolding answer loadOutcome Leaves
-    sheet-refused number place {r} {q} h told = by-judged (judge sheet) (by-sheet long room) (sym h ∙ e)
+    sheet-refused number place {r} {q} h told = by-judged (judge sheet) refl (sym h ∙ e)
       where
-        by-judged : (j : Judged) → judgedIn sheet s p ≡ j → Refused number place ≡ answer sheet j → Promise sheet s p r s q
+        by-judged : (j : Judged) → judge sheet ≡ j → Refused number place ≡ answer sheet j → Promise sheet s p r s q
         by-judged (Judged.accepted ns) i k = let z : _≡_ {A = ℕ} 0 1 = cc in absurd (omega arith)
         by-judged (Judged.refused n v) i k =
             let number-is : number ≡ n = cc in
             let place-is : place ≡ v = cc in
-            promised s (Judged.refused n v) i (rw (number-is, place-is) at (told-whole number place r p q told)) refl
+            let whole : place % 4294967296 ≡ v = omega (arith, place-is, refused-place sheet n v i) in
+            promised s (Judged.refused n v) (by-sheet long room ∙ i) (rw (number-is, whole) at told) refl
 
     pub sheet-accepted : (count : ℕ) (first : Position) {r : ℕ} {t q : List ℕ} → a ≡ Accepted count first → Fills sheet s t → Told accepted p r q → Promise sheet s p r t q
     unfolding answer loadOutcome Leaves

@@ -27,7 +27,8 @@ fn fill(sheet: &[u8], store: &mut [u8])
 }
 
 // Refusal 21, then those of the sheet, each with its place; or 0, and the store is filled. A place is at most 1048576,
-// being that of a byte in a sheet that is not too long, or a node's number: nothing of it is cut off.
+// being that of a byte in a sheet that is not too long, or a node's number (`refused-place`, spec/proofs/reading):
+// nothing of it is cut off.
 pub fn load(sheet: &[u8], store: &mut [u8], reply: &mut [u8]) -> u32
     ensures { λ r. ⌜ r ≡ returned (loadOutcome (judgedIn (now (sheet .entry)) (now (store .entry)) (now (reply .entry)))) ⌝ }
     ensures { λ _. ⌜ now (reply .exit) ≡ replyAfter (loadOutcome (judgedIn (now (sheet .entry)) (now (store .entry)) (now (reply .entry)))) (now (reply .entry)) ⌝ }

@@ -16,6 +16,7 @@ use Rattle.words.specs.Equality.{equalb}
 use Rattle.words.proofs.RunLaws.{length-run, run-snoc, run-none, run-whole}
 use Rattle.spec.specs.Basics.{Text, bytes, if_then_else_, maybe}
 use Rattle.spec.specs.Sheet.{Fault, malformed, Got, got, bad, next, after, upToEnd, line, field, number}
+use Rattle.spec.proofs.reading.Places.{after-rest, end-inside}
 use Rattle.sheet.specs.Keyed.{lineOf, fieldOf, numberOf}
 use Rattle.sheet.specs.Lines.{afterKey, upTo, EndInside, gotLine, ValueInside}
 use Rattle.sheet.specs.declared.lines.LineEnd.{LineEnd}
@@ -143,17 +144,6 @@ module _ (s : List ℕ) (start i : ℕ) (r : Scanned s start i) (h : 3 < length 
   pub scan-four : (getD s (i + 1) 0 ≡ 10 → ⊥) → (getD s (i + 2) 0 ≡ 10 → ⊥) → (getD s (i + 3) 0 ≡ 10 → ⊥) → Scanned s start (i + 4)
   scan-four m o q = let e : i + 4 ≡ i + 3 + 1 = omega arith in rw e (scan-more s start (i + 3) (scan-three m o) (omega arith) q)
 
-after-rest : (key l rest : List ℕ) → after key l ≡ some rest → length key + length rest ≡ length l
-unfolding after
-after-rest [] l rest e = let f : l ≡ rest = cc in omega (arith, ap length f)
-after-rest (k ∷ ks) [] rest e = let z : _≡_ {A = ℕ} 0 1 = cc in absurd (omega arith)
-after-rest (k ∷ ks) (c ∷ l) rest e = go (eqb c k) (after-rest ks l rest) e
-  where
-    go : (t : Bool) → (after ks l ≡ some rest → length ks + length rest ≡ length l) → (if t then after ks l else none) ≡ some rest
-        → suc (length ks) + length rest ≡ suc (length l)
-    go true f q = let g = f q in omega arith
-    go false f q = let z : _≡_ {A = ℕ} 0 1 = cc in absurd (omega arith)
-
 -- ---- the whole line, by what was found of its key and its end
 module _ (key s : List ℕ) (at : ℕ) (t : Bool) (e : afterKey t (at + length key) s ≡ after key (drop at s)) where
   pub line-other : t ≡ false → (gotLine s at read.Malformed ≡ lineOf key s at) × Unit {0}
@@ -205,17 +195,6 @@ module _ {A : Type 0} (key : Text) (parse : Text → Option A) (why : Fault) (te
     field-right a f t = rw (e, f, t)
 
 -- ---- a line that was read ends inside
-end-inside : (l v : List ℕ) → upToEnd l ≡ some v → length v < length l
-unfolding upToEnd
-end-inside [] v e = let z : _≡_ {A = ℕ} 0 1 = cc in absurd (omega arith)
-end-inside (c ∷ l) v e = go (eqb c 10) (upToEnd l) (end-inside l) e
-  where
-    go : (t : Bool) (o : Option Text) → ((w : List ℕ) → o ≡ some w → length w < length l)
-        → elim t [ true ↦ some [] | false ↦ Option·map (λ v. c ∷ v) o ] ≡ some v → length v < suc (length l)
-    go true o f q = let g : [] ≡ v = cc in omega (arith, ap length g)
-    go false none f q = let z : _≡_ {A = ℕ} 0 1 = cc in absurd (omega arith)
-    go false (some w) f q = let g : c ∷ w ≡ v = cc in omega (arith, ap length g, f w refl)
-
 pub line-inside : (key s : List ℕ) (at place : ℕ) (v : Text) → lineOf key s at ≡ got v place → place ≤ length s
 unfolding lineOf
 line-inside key s at place v e = go (after key (drop at s)) refl e

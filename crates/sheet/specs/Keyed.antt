@@ -1,5 +1,5 @@
--- The readers of a line with the key as bytes, as the code has it: `line key` is `lineOf (bytes key)`, and so for the
--- others (proofs/LineLaws.antt, `line-is`, `field-is`, `number-is`).
+-- The readers of a line with the key as bytes, as the code has it: `line key` computes to `lineOf (bytes key)`, and so
+-- for the others (proofs/LineLaws.antt, `number-is`).
 use mathlib.Core.Bool.{Bool, _&&_}
 use mathlib.Core.Option.{Option}
 use Prim.Native.Nat.{ℕ, _+_}

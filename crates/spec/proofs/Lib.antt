@@ -4,7 +4,7 @@
 -- Laws of tests, of lists and of sums over them.
 pub mod general
 -- What is known of the bytes and the nodes of a sheet once its lines were read. Ends in `flags-held`, `floats-held`,
--- `refused-number`.
+-- `refused-number`, `refused-place`.
 pub mod reading
 -- Lowering uses what it allocates once, so a walk enters each name and reaches each expression at most once. Ends in
 -- `lowered-held-once`, `lowered-walked-once`.
