@@ -46,7 +46,8 @@ class Tie:
                     named_claims.append(f'{below.group(1)}-below t')
                     continue
                 alias, what = re.fullmatch(r'(\S+)\.(Asked|Learnt|Post)', claim).groups()
-                # Some that another crate passes on, which the crates here do at their root, are printed by their own names there.
+                # Some that another crate passes on, which the crates here do at their root, are printed by their own
+                # names there.
                 module = modules.get(alias) or re.sub(r'·proofs\.proofs\.(?:\w+\.)*?(\w+\.Reads)$', r'.proofs.\1', alias)
                 function = module.split('.')[-2]
                 name = function.replace('_', '-') + ('' if what == 'Post' and function in theirs else '-reads')

@@ -35,7 +35,8 @@ impl Span {
     }
 }
 
-// A malformed line is refusal 2. A value that is wrong is 3, 31, 32 or 33, by what it is about (`refusal` in sheets.rt).
+// A malformed line is refusal 2. A value that is wrong is 3, 31, 32 or 33, by what it is about (`refusal` in
+// sheets.rt).
 pub enum Fault {
     Malformed,
     WrongCount,

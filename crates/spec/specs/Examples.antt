@@ -142,8 +142,8 @@ unfolding computes examples
 marked = refl
 
 -- ---- lines refused
--- A Root with one child or none, and the five lines of an Ident after its kind: they begin at bytes 56, 63, 68, 75 and 81
--- where the ones before them are `from=0`, `to=1`, `flag=0` and `kids=`.
+-- A Root with one child or none, and the five lines of an Ident after its kind: they begin at bytes 56, 63, 68, 75 and
+-- 81 where the ones before them are `from=0`, `to=1`, `flag=0` and `kids=`.
 abbrev pub rootAnd : String → String → List ℕ
 rootAnd kid lines = bytes "nodes=2\nkind=21\nfrom=0\nto=1\nflag=0\nkids=" ++ bytes kid ++ bytes "\ntext=\nkind=18\n" ++ bytes lines
 

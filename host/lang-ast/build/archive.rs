@@ -1,7 +1,7 @@
 //! Finds or makes liblang_ast.a, and has it linked. A module of the build scripts of both crates that call the archive.
 //!
-//! It is looked for in this order: where LANG_AST_ARCHIVE says, a file or the folder that it is in; in target/staticlib of the repository;
-//! and if it is not there, but `rt` is, `rt staticlib lang_ast` makes it there.
+//! It is looked for in this order: where LANG_AST_ARCHIVE says, a file or the folder that it is in; in target/staticlib
+//! of the repository; and if it is not there, but `rt` is, `rt staticlib lang_ast` makes it there.
 
 use std::env;
 use std::fs::{create_dir_all, File};
@@ -33,7 +33,8 @@ fn found() -> Result<PathBuf, String> {
     let root = Path::new(env!("CARGO_MANIFEST_DIR")).join("../..");
     let archive = root.join("target/staticlib").join(FILE);
     if !archive.is_file() {
-        // Cargo may build both crates at once, and one making at a time is enough: the second waits here and finds the archive.
+        // Cargo may build both crates at once, and one making at a time is enough: the second waits here and finds the
+        // archive.
         let lock = locked(&root);
         if !archive.is_file() {
             made(&root)?;

@@ -29,8 +29,8 @@ const NAMES: [&str; 22] = [
     "true",
 ];
 
-/// What a Reference means: the innermost definition around it; else a name built into Nix; else one of the Withs around it, which only an
-/// evaluation can tell; else nothing.
+/// What a Reference means: the innermost definition around it; else a name built into Nix; else one of the Withs around
+/// it, which only an evaluation can tell; else nothing.
 #[derive(Debug, Clone, PartialEq, Eq, Hash)]
 pub enum Answer {
     /// Nothing has its name.

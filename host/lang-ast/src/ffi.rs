@@ -1,8 +1,9 @@
-//! The five calls of the archive, and all that is unsafe in this crate: turning slices into the pointers and lengths that the calls take.
+//! The five calls of the archive, and all that is unsafe in this crate: turning slices into the pointers and lengths
+//! that the calls take.
 //!
-//! None of the calls forbids an argument: any bytes, any numbers, any lengths, none too. So each is safe to call with any slices, and what
-//! is left to see to is only that a pointer and a length belong together and that nothing else looks at a slice while it is written, which
-//! a Rust slice says of itself.
+//! None of the calls forbids an argument: any bytes, any numbers, any lengths, none too. So each is safe to call with
+//! any slices, and what is left to see to is only that a pointer and a length belong together and that nothing else
+//! looks at a slice while it is written, which a Rust slice says of itself.
 
 #![allow(unsafe_code)]
 
@@ -22,8 +23,8 @@ mod archive {
 pub fn load(sheet: &[u8], store: &mut [u8], reply: &mut [u8]) -> u32 {
     let (sheet, sheet_length) = (sheet.as_ptr(), sheet.len());
     let (store, store_length) = (store.as_mut_ptr(), store.len());
-    // SAFETY: each pointer is its slice's, with that slice's length; what is written is borrowed mutably, so nothing else is in it. The
-    // call keeps no pointer after it returns.
+    // SAFETY: each pointer is its slice's, with that slice's length; what is written is borrowed mutably, so nothing
+    // else is in it. The call keeps no pointer after it returns.
     unsafe { archive::lang_ast_load(sheet, sheet_length, store, store_length, reply.as_mut_ptr(), reply.len()) }
 }
 

@@ -1,4 +1,5 @@
-//! The numbers of expressions, names and scopes. They are three sorts, so that a name's number can't be taken for an expression's.
+//! The numbers of expressions, names and scopes. They are three sorts, so that a name's number can't be taken for an
+//! expression's.
 
 use std::fmt;
 

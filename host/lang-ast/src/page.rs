@@ -1,5 +1,5 @@
-//! The bytes of a store, read by the tables of docs/STORE.md. Any bytes can be read: what is not there, or is no number that the page lets
-//! be there, is none.
+//! The bytes of a store, read by the tables of docs/STORE.md. Any bytes can be read: what is not there, or is no number
+//! that the page lets be there, is none.
 
 use crate::layout::{self, header, Table, EMPTY_TEXT, STORE_BYTES, TEXTS};
 use std::ops::Range;

@@ -1,7 +1,7 @@
 //! What a store holds, read from its bytes by docs/STORE.md, without a call.
 //!
-//! Nothing here checks the store, and nothing here panics: of a store that the calls refuse, a reader gives what can be read of it, and
-//! none where a number is not one that the page lets be there.
+//! Nothing here checks the store, and nothing here panics: of a store that the calls refuse, a reader gives what can be
+//! read of it, and none where a number is not one that the page lets be there.
 
 use crate::answer::{Answer, Builtin};
 use crate::expr::{Expr, Row, HOLE};
@@ -350,8 +350,8 @@ impl Store {
         self.scopes().find(|&scope| self.with_of(scope) == Some(None) && has(scope))
     }
 
-    /// What a Reference means by the answer that is kept: what [`Store::ask_reference`] says, without the check of the store. None where
-    /// the expression is no Reference.
+    /// What a Reference means by the answer that is kept: what [`Store::ask_reference`] says, without the check of the
+    /// store. None where the expression is no Reference.
     pub fn kept_answer(&self, expr: ExprId) -> Option<Answer> {
         self.reference_text(expr)?;
         Some(match self.page().field(layout::USES, expr.0, 1)? {
@@ -364,7 +364,8 @@ impl Store {
         })
     }
 
-    /// The References that are kept for a name, ascending: what [`Store::ask_name`] says, without the check of the store.
+    /// The References that are kept for a name, ascending: what [`Store::ask_name`] says, without the check of the
+    /// store.
     pub fn kept_references(&self, name: NameId) -> Option<Vec<ExprId>> {
         let (page, exprs) = (self.page(), self.expr_count());
         let mut rows = page.list(layout::REFERENCES, below(name.0, self.name_count())?, layout::KEPT)?;

@@ -36,12 +36,13 @@ pub enum Reason {
     /// the last line. The place is the first byte of the line or of those bytes; the sheet's length where a line is
     /// missing.
     Form,
-    /// 3: the number of nodes, a kind or a kid's number is out of its range; node 0 has to be a Root. The place is the first byte of its
-    /// line.
+    /// 3: the number of nodes, a kind or a kid's number is out of its range; node 0 has to be a Root. The place is the
+    /// first byte of its line.
     Value,
     /// 4: a node has too few or too many kids. The place is the node.
     KidCount,
-    /// 5: a kid is not the next node, or not of a kind that its place takes, or absent in a list. The place is the parent.
+    /// 5: a kid is not the next node, or not of a kind that its place takes, or absent in a list. The place is the
+    /// parent.
     WrongKid,
     /// 6: a node lies deeper than 256. The place is its parent.
     TooDeep,
@@ -59,8 +60,8 @@ pub enum Reason {
     NoSuchNumber,
     /// 25: the expression is no Reference. The place is its number.
     NotAReference,
-    /// 26: the list is longer than the buffer. The place is its length. This library then lends a longer one and asks again, so its
-    /// callers never see it.
+    /// 26: the list is longer than the buffer. The place is its length. This library then lends a longer one and asks
+    /// again, so its callers never see it.
     BufferTooShort,
     /// 27: the texts of all changes since the load would come to more than 8,192 bytes.
     RoomSpent,
@@ -68,8 +69,8 @@ pub enum Reason {
     WrongFlag,
     /// 32: a node has a text that its kind, with its flag, does not have. The place is the first byte of its line.
     WrongText,
-    /// 33: a node's `from` is above its `to`, or one of them is above 4,294,967,295. The place is the first byte of its line; a `from` above
-    /// its `to` is told at the line of the `to`.
+    /// 33: a node's `from` is above its `to`, or one of them is above 4,294,967,295. The place is the first byte of its
+    /// line; a `from` above its `to` is told at the line of the `to`.
     WrongRange,
 }
 
@@ -109,8 +110,8 @@ impl Refusal {
         (21..=23).contains(&self.number)
     }
 
-    /// What the linked archive never says if it is the one that this library was written for. It stands for a reply that can't be read, so
-    /// that such a reply is no panic.
+    /// What the linked archive never says if it is the one that this library was written for. It stands for a reply
+    /// that can't be read, so that such a reply is no panic.
     pub(crate) const UNKNOWN: Refusal = Refusal { number: u32::MAX, place: 0 };
 }
 

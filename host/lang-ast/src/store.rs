@@ -19,9 +19,9 @@ const NO_SUCH_NUMBER: u32 = 24;
 
 /// A loaded file: its expressions, names and scopes, what each Reference means and where each name is used.
 ///
-/// It owns its [`STORE_BYTES`] bytes. They hold everything: a copy of them is a copy of the file ([`Clone`]), and bytes that were kept
-/// elsewhere are a store again by [`Store::from_bytes`]. Every call checks the bytes first, so no bytes are dangerous: what is no store is
-/// refused.
+/// It owns its [`STORE_BYTES`] bytes. They hold everything: a copy of them is a copy of the file ([`Clone`]), and bytes
+/// that were kept elsewhere are a store again by [`Store::from_bytes`]. Every call checks the bytes first, so no bytes
+/// are dangerous: what is no store is refused.
 ///
 /// A load takes up to one mebibyte of the thread's stack; asking and changing take little.
 ///
@@ -113,7 +113,8 @@ impl Store {
 
     /// Puts another sheet in the place of the one that is loaded. A refusal leaves the store as it was.
     ///
-    /// The numbers of expressions, names and scopes are those of the new sheet, and the whole change room is free again.
+    /// The numbers of expressions, names and scopes are those of the new sheet, and the whole change room is free
+    /// again.
     ///
     /// ```
     /// # let sheet = std::fs::read("../../examples/lambda.sheet")?;
@@ -127,7 +128,8 @@ impl Store {
         outcome(ffi::load(sheet, &mut self.bytes, &mut reply), &reply)
     }
 
-    /// A store of any bytes. Bytes that are no store are refused by the calls: with 21 if they are too few, else with 22 or 23.
+    /// A store of any bytes. Bytes that are no store are refused by the calls: with 21 if they are too few, else with
+    /// 22 or 23.
     ///
     /// ```
     /// # let sheet = std::fs::read("../../examples/lambda.sheet")?;
@@ -152,8 +154,8 @@ impl Store {
         self.bytes.into_vec()
     }
 
-    /// Whether the store can be asked at all: refused with 21 if its bytes are too few, with 22 if they are unsound, with 23 if nothing is
-    /// loaded. A store that was loaded, and changed by its own methods alone, never is.
+    /// Whether the store can be asked at all: refused with 21 if its bytes are too few, with 22 if they are unsound,
+    /// with 23 if nothing is loaded. A store that was loaded, and changed by its own methods alone, never is.
     pub fn check(&self) -> Result<(), Refusal> {
         // An asking checks the store before the number, and this number no name has.
         match self.ask_name(NameId(u32::MAX)) {
@@ -172,7 +174,8 @@ impl Store {
         Ok(asked(|buffer, reply| ffi::ask_name(&self.bytes, name.0, buffer, reply))?.list)
     }
 
-    /// Sets the text of a Reference, and with it what it means. All answers and references are then those of the file with the new text.
+    /// Sets the text of a Reference, and with it what it means. All answers and references are then those of the file
+    /// with the new text.
     ///
     /// Refused with 24 and 25 as [`Store::ask_reference`] is, with 8 for a text of more than
     /// [`TEXT_LIMIT`](crate::TEXT_LIMIT) bytes, and with 27 if it is another than the old one and has more bytes than

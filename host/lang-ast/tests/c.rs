@@ -1,5 +1,5 @@
-//! The header and the archive for a host in C: tests/c/follow.c, compiled and run. Skipped where there is no C compiler.
-//! That the header's numbers are the library's is tested in src/layout.rs.
+//! The header and the archive for a host in C: tests/c/follow.c, compiled and run. Skipped where there is no C
+//! compiler. That the header's numbers are the library's is tested in src/layout.rs.
 
 use std::path::{Path, PathBuf};
 use std::process::Command;

@@ -1,4 +1,5 @@
-//! All that the readers say of a store against the oracle's second reading of the sheet: after a load, and after changes.
+//! All that the readers say of a store against the oracle's second reading of the sheet: after a load, and after
+//! changes.
 
 mod common;
 

@@ -164,7 +164,8 @@ fn fault_name(error: &SheetError) -> String {
     said.split([' ', '{']).next().unwrap_or_default().to_string()
 }
 
-/// A writer numbers the nodes itself, so what it must refuse is what the oracle refuses of the nodes numbered by the walk.
+/// A writer numbers the nodes itself, so what it must refuse is what the oracle refuses of the nodes numbered by the
+/// walk.
 #[test]
 fn damaged_trees_are_refused_as_the_oracle_refuses_them() {
     let rng = &mut Rng::new(2);

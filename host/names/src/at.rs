@@ -23,7 +23,8 @@ pub struct Here {
     pub pointer: Pointer,
 }
 
-/// The innermost expression or name around a byte; of those with the same place a Reference first, then a name. None where nothing is.
+/// The innermost expression or name around a byte; of those with the same place a Reference first, then a name. None
+/// where nothing is.
 pub fn here(opened: &Opened, byte: u32) -> Option<Here> {
     let around = things(opened).filter(|here| here.pointer.from <= byte && byte < here.pointer.to);
     around.min_by_key(|here| (here.pointer.to - here.pointer.from, rank(here.thing)))
@@ -53,13 +54,15 @@ fn things(opened: &Opened) -> impl Iterator<Item = Here> + '_ {
     exprs.chain(names).chain(again)
 }
 
-/// The name that is written at a place, for the first time or again. That a Reference has the same place is so in a plain inherit.
+/// The name that is written at a place, for the first time or again. That a Reference has the same place is so in a
+/// plain inherit.
 pub fn name_written(opened: &Opened, place: Pointer) -> Option<NameId> {
     let again = || opened.again.iter().find(|again| again.place == place).and_then(|again| opened.store.name_at(again.first));
     opened.store.name_at(place).or_else(again)
 }
 
-/// What else the text at a byte is, where the definition there is that of a plain inherit: someone may have meant the inherited value.
+/// What else the text at a byte is, where the definition there is that of a plain inherit: someone may have meant the
+/// inherited value.
 pub fn also(opened: &Opened, byte: u32) -> Option<String> {
     let here = here(opened, byte)?;
     let Thing::Reference(expr) = here.thing else { return None };

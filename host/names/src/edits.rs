@@ -1,8 +1,8 @@
 //! What a rename would write in the Nix text.
 //!
-//! Most places are simply written over. An inherit is not: in `inherit base;` one text is both the key and the use of an outer name, and a
-//! rename is about one of them. Writing over it would tie the key to another value, or the value to another key, so it is spelled out as
-//! `new = base;` or `base = new;`.
+//! Most places are simply written over. An inherit is not: in `inherit base;` one text is both the key and the use of
+//! an outer name, and a rename is about one of them. Writing over it would tie the key to another value, or the value
+//! to another key, so it is spelled out as `new = base;` or `base = new;`.
 
 use crate::at;
 use crate::input::Opened;
@@ -96,8 +96,8 @@ impl Writing<'_> {
         self.edits.warnings.extend(self.captured(pointer, touched));
     }
 
-    /// An inherit looks its value up outside its let or rec set, but `base = new;` looks it up inside. If the new text is a name in there,
-    /// no way of writing the inherit with it means the outer name.
+    /// An inherit looks its value up outside its let or rec set, but `base = new;` looks it up inside. If the new text
+    /// is a name in there, no way of writing the inherit with it means the outer name.
     fn captured(&self, pointer: Pointer, touched: Touched) -> Option<String> {
         let (opened, new) = (self.opened, &self.plan.new);
         let key = at::name_written(opened, pointer).filter(|_| touched.reference)?;

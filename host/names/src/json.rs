@@ -27,8 +27,8 @@ impl Object {
         self
     }
 
-    /// A text of the sheet, which is bytes: a string under `key` where they are UTF-8, else hex under `key_hex`, so that a program never
-    /// takes a replaced character for the text.
+    /// A text of the sheet, which is bytes: a string under `key` where they are UTF-8, else hex under `key_hex`, so
+    /// that a program never takes a replaced character for the text.
     pub fn with_text(self, key: &str, text: &[u8]) -> Self {
         match std::str::from_utf8(text) {
             Ok(text) => self.with(key, text),

@@ -1,5 +1,6 @@
-//! Keys that are written more than once: in `{ a.b = 1; a.c = 2; }` the two `a` are one name, whose place in the store is the first `a`. A
-//! rename that wrote the first alone would tear the set apart, so the others are found here, by the rules by which sets merge.
+//! Keys that are written more than once: in `{ a.b = 1; a.c = 2; }` the two `a` are one name, whose place in the store
+//! is the first `a`. A rename that wrote the first alone would tear the set apart, so the others are found here, by the
+//! rules by which sets merge.
 
 use crate::tree::{kind, Node, Tree};
 use lang_ast::Pointer;
@@ -125,8 +126,8 @@ mod tests {
         again(&Tree::read(sheet)).iter().map(|again| (again.first.from, again.place.from)).collect()
     }
 
-    /// The rules of merging are those of the load, so the keys that are found here must be the names that the store has. Sheets with an
-    /// operator that is missing are left out: a load passes over what such an operator has.
+    /// The rules of merging are those of the load, so the keys that are found here must be the names that the store
+    /// has. Sheets with an operator that is missing are left out: a load passes over what such an operator has.
     #[test]
     fn every_key_is_a_name_of_the_store() {
         let mut compared = 0;

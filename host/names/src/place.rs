@@ -78,7 +78,8 @@ impl Source {
         Some((start, self.starts.get(number).copied().unwrap_or(self.bytes.len())))
     }
 
-    /// The line in which a place begins, and under it a marker as long as the place; two lines, none where the place is outside.
+    /// The line in which a place begins, and under it a marker as long as the place; two lines, none where the place is
+    /// outside.
     pub fn marked(&self, from: u32, to: u32) -> Vec<String> {
         self.marked_line(from, to).unwrap_or_default()
     }

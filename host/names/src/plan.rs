@@ -1,4 +1,5 @@
-//! What a rename would do, tried out on a clone of the store: which References follow the name, and which answers would not stay.
+//! What a rename would do, tried out on a clone of the store: which References follow the name, and which answers would
+//! not stay.
 
 use crate::input::{self, Opened};
 use crate::text::shown;

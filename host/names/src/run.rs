@@ -70,8 +70,8 @@ fn next_line(reader: &mut dyn BufRead) -> io::Result<Option<Result<String, Strin
     Ok(Some(String::from_utf8(bytes).map_err(|_| "it is not UTF-8".to_string())))
 }
 
-/// Makes a call. The library always lends enough, so lengths that the line names are held against the rules here: 21 for a short reply
-/// comes before all else, 26 for a short buffer after all else.
+/// Makes a call. The library always lends enough, so lengths that the line names are held against the rules here: 21
+/// for a short reply comes before all else, 26 for a short buffer after all else.
 fn outcome(opened: &mut Opened, call: &Call) -> Outcome {
     if call.reply.is_some_and(|reply| reply < REPLY_BYTES) {
         return Outcome::Refused(Refusal { number: 21, place: 0 });

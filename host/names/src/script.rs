@@ -7,7 +7,8 @@
 //! set-name N text=HEX reply=BYTES
 //! ```
 //!
-//! It is the format of the oracle's book, but that `buffer=` and `reply=` may be left out: then what is lent is long enough.
+//! It is the format of the oracle's book, but that `buffer=` and `reply=` may be left out: then what is lent is long
+//! enough.
 
 use crate::tree::bytes;
 use std::str::SplitWhitespace;

@@ -1,5 +1,5 @@
-//! The nodes of a sheet that was accepted. The store keeps what names mean; where an inherit begins and which keys are written again only
-//! the sheet tells, and a rename in the Nix text wants both.
+//! The nodes of a sheet that was accepted. The store keeps what names mean; where an inherit begins and which keys are
+//! written again only the sheet tells, and a rename in the Nix text wants both.
 
 use lang_ast::Pointer;
 
@@ -61,7 +61,8 @@ impl Tree {
         inherits.into_iter().find(|inherit| self.kids(inherit, 1).any(|(_, kid)| kid.pointer == attribute))
     }
 
-    /// The key that an attribute is, where it is known without an evaluation: a name, or a string without interpolation.
+    /// The key that an attribute is, where it is known without an evaluation: a name, or a string without
+    /// interpolation.
     pub fn key(&self, attribute: &Node) -> Option<Vec<u8>> {
         match attribute.pointer.kind {
             kind::IDENT => Some(attribute.text.clone()),

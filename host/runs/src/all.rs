@@ -1,5 +1,5 @@
-//! All runs, one after the other, short or at scale, and at the end one table of what they came to. Each is a process of its own, so that
-//! neither a difference nor the end of one, by a panic or a fault, keeps the others from being run.
+//! All runs, one after the other, short or at scale, and at the end one table of what they came to. Each is a process
+//! of its own, so that neither a difference nor the end of one, by a panic or a fault, keeps the others from being run.
 
 use crate::progress::{grouped, wipe};
 use crate::report::Report;

@@ -17,7 +17,8 @@ impl Edged {
         &mut self.bytes[MARGIN..MARGIN + self.length]
     }
 
-    /// Whether these words were written from the slice's first byte on, and nothing else. Words that do not fit are not to be written.
+    /// Whether these words were written from the slice's first byte on, and nothing else. Words that do not fit are not
+    /// to be written.
     pub fn holds(&self, words: &[u32]) -> Result<(), String> {
         let mut right = vec![UNWRITTEN; self.bytes.len()];
         if 4 * words.len() <= self.length {

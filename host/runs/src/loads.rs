@@ -1,5 +1,5 @@
-//! Sheets loaded in a store: module, scopes, answers and references that are read back are the Rust's, nothing is spent, and what the
-//! store is asked it tells.
+//! Sheets loaded in a store: module, scopes, answers and references that are read back are the Rust's, nothing is
+//! spent, and what the store is asked it tells.
 
 use crate::exported;
 use crate::lending::{random, Lending};
@@ -23,7 +23,8 @@ const ASKED: usize = 200;
 const EACH: u64 = 256;
 const EACH_OTHER: u64 = 8;
 
-/// Loads the points, the sheets at the limits, those like the files that people write, and so many random ones of up to so many nodes.
+/// Loads the points, the sheets at the limits, those like the files that people write, and so many random ones of up to
+/// so many nodes.
 pub fn run(count: u64, most: usize, seed: u64) -> Result<Report, String> {
     run_on(threads(), count, most, seed)
 }

@@ -1,6 +1,6 @@
-//! Runs of the compiled Rattle code through the five calls that the product exports: against the oracle's checker, the Rust's lowering and
-//! name resolution and the oracle's book, against a reader and a check that were written from docs/STORE.md, on any bytes at all, and
-//! against the clock.
+//! Runs of the compiled Rattle code through the five calls that the product exports: against the oracle's checker, the
+//! Rust's lowering and name resolution and the oracle's book, against a reader and a check that were written from
+//! docs/STORE.md, on any bytes at all, and against the clock.
 
 mod all;
 mod any;

@@ -1,5 +1,6 @@
-//! Bytes: what of the store is in use after a load, table by table, beside what the Rust has allocated for the same sheet, and the most
-//! that it had on the way. The allocator of this program counts while it is asked to; what malloc adds to a block is not counted.
+//! Bytes: what of the store is in use after a load, table by table, beside what the Rust has allocated for the same
+//! sheet, and the most that it had on the way. The allocator of this program counts while it is asked to; what malloc
+//! adds to a block is not counted.
 
 use crate::exported;
 use crate::lower::sheets;
@@ -22,8 +23,8 @@ struct Counting;
 static ALLOCATOR: Counting = Counting;
 
 thread_local! {
-    /// Of this thread alone: whether it counts, the bytes and the blocks that it has more than at the start, and the most bytes. They are
-    /// there from the start and are never dropped, or else the allocator could not use them.
+    /// Of this thread alone: whether it counts, the bytes and the blocks that it has more than at the start, and the
+    /// most bytes. They are there from the start and are never dropped, or else the allocator could not use them.
     static COUNTS: Cell<bool> = const { Cell::new(false) };
     static NOW: Cell<Allocated> = const { Cell::new(Allocated { live: 0, peak: 0, blocks: 0 }) };
 }

@@ -1,5 +1,6 @@
-//! How far a run has come, on standard error: what, how many of how many, and the differences so far. On a terminal the line is rewritten
-//! about once a second; anywhere else there is a new one every ten seconds at most. Runs of less than two seconds have none.
+//! How far a run has come, on standard error: what, how many of how many, and the differences so far. On a terminal the
+//! line is rewritten about once a second; anywhere else there is a new one every ten seconds at most. Runs of less than
+//! two seconds have none.
 
 use std::io::{stderr, IsTerminal, Write};
 use std::sync::atomic::{AtomicBool, AtomicU64, Ordering::Relaxed};
@@ -10,7 +11,8 @@ const FIRST: u64 = 2_000;
 const TERMINAL: u64 = 1_000;
 const PLAIN: u64 = 10_000;
 
-/// The clock is looked at about so many times in all, and at least after so many turns: it costs little, but turns may cost less.
+/// The clock is looked at about so many times in all, and at least after so many turns: it costs little, but turns may
+/// cost less.
 const LOOKS: u64 = 2_000;
 const MOST_TURNS: u64 = 64;
 

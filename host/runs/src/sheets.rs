@@ -1,4 +1,5 @@
-//! Number and place, by the compiled load and by the oracle's checker, over many sheets. A refused load leaves every byte of the store.
+//! Number and place, by the compiled load and by the oracle's checker, over many sheets. A refused load leaves every
+//! byte of the store.
 
 use crate::edged::Edged;
 use crate::exported::{self, REPLY};

@@ -1,5 +1,5 @@
-//! Stores that are sound and built to be slow, and sheets that are: every Reference bears the text that changes, and is searched through
-//! all names and scopes. How long one call takes then.
+//! Stores that are sound and built to be slow, and sheets that are: every Reference bears the text that changes, and is
+//! searched through all names and scopes. How long one call takes then.
 
 use crate::exported::{self, REPLY};
 use crate::lower::sheets::tree;

@@ -1,5 +1,5 @@
-//! Work that is split over threads by ranges of turns. The ranges do not depend on the number of threads, and what is made of them comes in
-//! their order, so that a run tells the same for the same seed on any machine.
+//! Work that is split over threads by ranges of turns. The ranges do not depend on the number of threads, and what is
+//! made of them comes in their order, so that a run tells the same for the same seed on any machine.
 
 use std::collections::BTreeMap;
 use std::ops::Range;
@@ -16,8 +16,8 @@ pub fn threads() -> usize {
     thread::available_parallelism().map_or(1, |cores| cores.get().min(MOST))
 }
 
-/// What the work makes of every `each` of the turns, in their order. Each thread has a state of its own, on which what is made must not
-/// depend: it is there so that memory is used again. All stacks are big enough for the Rust.
+/// What the work makes of every `each` of the turns, in their order. Each thread has a state of its own, on which what
+/// is made must not depend: it is there so that memory is used again. All stacks are big enough for the Rust.
 pub fn split<S, T: Send>(
     threads: usize,
     turns: u64,

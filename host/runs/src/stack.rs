@@ -1,5 +1,5 @@
-//! How much stack a load takes: the stack of a thread is painted below the frame that calls, and afterwards one looks how deep the
-//! paint is gone.
+//! How much stack a load takes: the stack of a thread is painted below the frame that calls, and afterwards one looks
+//! how deep the paint is gone.
 
 use crate::exported::{self, REPLY};
 use crate::lower::{sheets, Named};

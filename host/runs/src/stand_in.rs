@@ -1,5 +1,6 @@
-//! A stand-in for the five calls, so that the host can be tried without the archive: what the oracle's second reading makes of a sheet,
-//! written into the store by the host's builder, and askings and changes over what the host's reader finds there.
+//! A stand-in for the five calls, so that the host can be tried without the archive: what the oracle's second reading
+//! makes of a sheet, written into the store by the host's builder, and askings and changes over what the host's reader
+//! finds there.
 
 #![allow(clippy::missing_safety_doc, clippy::too_many_arguments)]
 

@@ -1,6 +1,6 @@
-//! The plain book of docs/RULES.md, which measures demand 3: fed the same calls as the store, it says what each is refused with or
-//! answered, and what the store then holds. It keeps no answer: whatever it says of answers is worked out afresh from a
-//! `canon::Reading`, over the scopes as loaded and the texts as they then read.
+//! The plain book of docs/RULES.md, which measures demand 3: fed the same calls as the store, it says what each is
+//! refused with or answered, and what the store then holds. It keeps no answer: whatever it says of answers is worked
+//! out afresh from a `canon::Reading`, over the scopes as loaded and the texts as they then read.
 //!
 //! An `Outcome` is shown in one line, which is what the host is told:
 //!
@@ -11,8 +11,8 @@
 //! | asking about a name | `length=L list=N,N` |
 //! | change | `changed=1`, or `changed=0` for an equal text |
 //!
-//! `answer` is 0 to 3, `to` the name, the index, the Withs or empty; `list` the With list or the kept references. Shown with `{:#}` the
-//! line ends in ` moved=N,N`, the References whose answers moved, which the host is not told.
+//! `answer` is 0 to 3, `to` the name, the index, the Withs or empty; `list` the With list or the kept references. Shown
+//! with `{:#}` the line ends in ` moved=N,N`, the References whose answers moved, which the host is not told.
 //!
 //! `script` reads calls from text, `random` makes them up, `locality` holds a call's moved answers against demand 3.
 
@@ -59,7 +59,8 @@ pub struct Outcome {
     pub place: u32,
     /// The answer of an accepted asking about a Reference.
     pub answer: Option<Answer>,
-    /// The With list or the kept references that an accepted asking leaves in the buffer; its length is the length that is returned.
+    /// The With list or the kept references that an accepted asking leaves in the buffer; its length is the length that
+    /// is returned.
     pub list: Vec<u32>,
     /// For an accepted change whether the text differed from the old.
     pub changed: Option<bool>,
@@ -155,7 +156,8 @@ impl<R: Reading> Book<R> {
         }
         let changed = old != text;
         if changed {
-            // "lengths of all accepted changes since the load whose text differed from the old, plus this one, exceed 8,192".
+            // "lengths of all accepted changes since the load whose text differed from the old, plus this one, exceed
+            // 8,192".
             let spent = self.room_spent + text.len();
             if spent > ROOM_BYTES {
                 return Err((27, 0));

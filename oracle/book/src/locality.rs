@@ -1,12 +1,13 @@
-//! The second half of demand 3: which answers a call may move. "A changed reference moves its own answer only. A changed name moves only
-//! references that bear its old or new text and whose scope is the name's scope or inside it; a name held by no scope moves none. A
-//! refused call, an equal text or an asking moves none."
+//! The second half of demand 3: which answers a call may move. "A changed reference moves its own answer only. A
+//! changed name moves only references that bear its old or new text and whose scope is the name's scope or inside it; a
+//! name held by no scope moves none. A refused call, an equal text or an asking moves none."
 
 use canon::{Expr, ExprId, Facts, NameId, ScopeId, ScopeKind, Scopes};
 
 use crate::{Call, Outcome};
 
-/// Whether the moved answers of a call are among those it may move; else the first that is not. `before` is the book before the call.
+/// Whether the moved answers of a call are among those it may move; else the first that is not. `before` is the book
+/// before the call.
 pub fn check(before: &Facts, call: &Call, outcome: &Outcome) -> Result<(), String> {
     match outcome.moved.iter().find(|&&reference| !may_move(before, call, outcome.refused, reference)) {
         None => Ok(()),

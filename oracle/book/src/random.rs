@@ -5,8 +5,8 @@ use generate::Rng;
 
 use crate::{Call, REPLY_BYTES};
 
-/// A call that hits and misses: numbers mostly in range, texts of the module, builtins and new ones, buffers around the length needed.
-/// A greedy script spends the change room quickly.
+/// A call that hits and misses: numbers mostly in range, texts of the module, builtins and new ones, buffers around the
+/// length needed. A greedy script spends the change room quickly.
 pub fn call(rng: &mut Rng, facts: &Facts, greedy: bool) -> Call {
     let reply = if rng.chance(4) { rng.below(REPLY_BYTES) } else { REPLY_BYTES + rng.below(3) };
     let buffer = if rng.chance(30) { rng.below(16) } else { 4 * facts.module.exprs.len() };

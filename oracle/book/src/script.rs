@@ -7,7 +7,8 @@
 //! set-name N text=HEX reply=BYTES
 //! ```
 //!
-//! `N` and `BYTES` are decimal, `HEX` is two digits a byte; the fields stand in this order. A `Call` is shown as such a line.
+//! `N` and `BYTES` are decimal, `HEX` is two digits a byte; the fields stand in this order. A `Call` is shown as such a
+//! line.
 
 use std::fmt;
 

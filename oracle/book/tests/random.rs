@@ -1,4 +1,5 @@
-//! Random scripts over trees with few distinct texts, and random trees: what must hold of every sheet and after every call.
+//! Random scripts over trees with few distinct texts, and random trees: what must hold of every sheet and after every
+//! call.
 
 mod common;
 
@@ -20,8 +21,9 @@ const TREES: [&str; 7] = [
     r#"21(12(4(18"c",18"a"),25(23(18"a"),11(28(18"b"),18"a")),25(23(18"b"),18"c"),25(23(24(18"a")),18"b")))"#,
 ];
 
-/// Puts random calls to the book of a tree; after each the moved answers must be such as may move, and at the end a fresh reading that is
-/// given the texts as they then are must say the same: no answer is left from older text. Gives how many answers moved.
+/// Puts random calls to the book of a tree; after each the moved answers must be such as may move, and at the end a
+/// fresh reading that is given the texts as they then are must say the same: no answer is left from older text. Gives
+/// how many answers moved.
 fn random_script(rng: &mut Rng, nodes: &[Node], calls: usize) -> usize {
     let mut book = Book::new(Plain::new(nodes));
     let loaded = book.facts();
@@ -80,7 +82,8 @@ fn every_accepted_tree_keeps_the_bounds() {
     });
 }
 
-/// "Four expressions, one name and one scope per node always suffice"; what 22 says of a store; and that lists and answers fit together.
+/// "Four expressions, one name and one scope per node always suffice"; what 22 says of a store; and that lists and
+/// answers fit together.
 fn check_facts(nodes: usize, facts: &Facts) {
     let (module, scopes) = (&facts.module, &facts.scopes.scopes);
     assert!(module.exprs.len() <= 4 * nodes && module.names.len() <= nodes && scopes.len() <= nodes);

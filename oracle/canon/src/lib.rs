@@ -1,5 +1,6 @@
-//! What a sheet comes to, in one plain form that every reading of the rules fills in and that has one text: expressions, names,
-//! both sides of the source map, diagnostics, lost list, scopes, answers and kept references. Two readings agree when these are equal.
+//! What a sheet comes to, in one plain form that every reading of the rules fills in and that has one text:
+//! expressions, names, both sides of the source map, diagnostics, lost list, scopes, answers and kept references. Two
+//! readings agree when these are equal.
 
 use std::collections::BTreeMap;
 
@@ -172,7 +173,8 @@ pub struct Facts {
     pub resolution: Resolution,
 }
 
-/// One reading of the rules, over a module whose texts can be set: what a load makes, and what holds afresh for the texts as they then read.
+/// One reading of the rules, over a module whose texts can be set: what a load makes, and what holds afresh for the
+/// texts as they then read.
 pub trait Reading {
     fn facts(&self) -> Facts;
     /// Sets the text of a name; the number must be that of a name.

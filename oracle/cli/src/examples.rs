@@ -1,5 +1,5 @@
-//! The sheets of the folder examples/: the marked examples of docs/RULES.md and lines A to E of the request, each with the Nix text that it
-//! is the sheet of, every node's place in that text, and what refsheet says of it.
+//! The sheets of the folder examples/: the marked examples of docs/RULES.md and lines A to E of the request, each with
+//! the Nix text that it is the sheet of, every node's place in that text, and what refsheet says of it.
 
 use canon::{Answer, Facts, Reading};
 

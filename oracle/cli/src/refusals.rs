@@ -2,7 +2,8 @@
 
 use std::collections::BTreeMap;
 
-/// A damaged sheet for each of `count` seeds from `seed` on. How many are accepted and refused with each number, or the first difference.
+/// A damaged sheet for each of `count` seeds from `seed` on. How many are accepted and refused with each number, or the
+/// first difference.
 pub fn refusals(seed: u64, count: u64) -> Result<String, String> {
     let mut numbers: BTreeMap<u32, u64> = BTreeMap::new();
     for seed in (0..count).map(|number| seed.wrapping_add(number)) {

@@ -1,5 +1,5 @@
-//! `oracle against`: a program that is right, one that is wrong, and one that is ended by a signal. One test, since a script that has
-//! just been written can't be run while another thread starts a program.
+//! `oracle against`: a program that is right, one that is wrong, and one that is ended by a signal. One test, since a
+//! script that has just been written can't be run while another thread starts a program.
 
 #![cfg(unix)]
 

@@ -1,5 +1,5 @@
-//! Two readings of every rule, held against each other on random sheets: `sheet::check` and `judge` on refusals, the Rust and `reading`
-//! on what an accepted sheet comes to, and two books on scripts of calls.
+//! Two readings of every rule, held against each other on random sheets: `sheet::check` and `judge` on refusals, the
+//! Rust and `reading` on what an accepted sheet comes to, and two books on scripts of calls.
 
 use std::collections::{BTreeMap, BTreeSet};
 

@@ -1,4 +1,5 @@
-//! The folder examples/: its files are what the command writes, and the places in the sheets are those in the Nix texts.
+//! The folder examples/: its files are what the command writes, and the places in the sheets are those in the Nix
+//! texts.
 
 use std::collections::BTreeMap;
 use std::path::Path;

@@ -54,7 +54,8 @@ pub fn any_flag(rng: &mut Rng) -> u8 {
     rng.pick(&[0, 1, 2, 3, 14, 15, 16, 17, 255])
 }
 
-/// Texts that may be wrong or right for any kind: no text, digits, floats at and around infinity, seven and nine bytes, letters.
+/// Texts that may be wrong or right for any kind: no text, digits, floats at and around infinity, seven and nine bytes,
+/// letters.
 pub fn any_text(rng: &mut Rng) -> Vec<u8> {
     let float = rng.pick(&[0x7ff0_0000_0000_0000_u64, 0x7ff0_0000_0000_0001, 0x7ff8_0000_0000_0000, 0x8000_0000_0000_0000, u64::MAX]);
     match rng.below(9) {

@@ -68,7 +68,8 @@ impl Grower<'_> {
             self.around.push(Vec::new());
             return Some(Tree::leaf(IDENT));
         }
-        // A name that is bound already, by a bind and a field of one pattern for example, comes up more often than by chance.
+        // A name that is bound already, by a bind and a field of one pattern for example, comes up more often than by
+        // chance.
         let text = match self.around.last() {
             Some(last) if self.rng.chance(20) => last.clone(),
             _ => self.names.key(self.rng),
@@ -77,8 +78,8 @@ impl Grower<'_> {
         Some(Tree::ident(&text))
     }
 
-    /// Entries that take at most `room` together. Paths and inherited attributes come first, so that the values of a let or a rec set
-    /// can refer to them; then what room is left goes to the values and sources.
+    /// Entries that take at most `room` together. Paths and inherited attributes come first, so that the values of a
+    /// let or a rec set can refer to them; then what room is left goes to the values and sources.
     fn entries(&mut self, room: Room, opens: bool) -> Vec<Tree> {
         let mut entries: Vec<Tree> = Vec::new();
         let mut left = if room.depth > 0 { room.nodes } else { 0 };
@@ -125,7 +126,8 @@ impl Grower<'_> {
         }
     }
 
-    /// The value of an entry: often a set, since only a set directly under its entry merges and one in a Paren or a Root does not.
+    /// The value of an entry: often a set, since only a set directly under its entry merges and one in a Paren or a
+    /// Root does not.
     fn value(&mut self, room: Room) -> Option<Tree> {
         if !room.holds(2, 2) || !self.rng.chance(self.sets) {
             return self.expr_place(room);
@@ -137,7 +139,8 @@ impl Grower<'_> {
         })
     }
 
-    /// The path of an entry: new, or one that an earlier entry of the set has, or a beginning of it, or that with more behind it.
+    /// The path of an entry: new, or one that an earlier entry of the set has, or a beginning of it, or that with more
+    /// behind it.
     fn entry_path(&mut self, earlier: &[Tree], room: Room) -> Option<Tree> {
         if !room.holds(1, 1) || self.rng.chance(3) {
             return None;

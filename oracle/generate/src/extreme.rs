@@ -90,8 +90,8 @@ pub fn chain(rng: &mut Rng, nest: Option<usize>, depth: usize) -> Vec<Node> {
     around(ROOT, tree).nodes(rng, Pointers::Nested)
 }
 
-/// A list as long as a sheet of so many nodes can hold, of one of nine sorts: the first nine with all keys different, the next nine with
-/// many equal.
+/// A list as long as a sheet of so many nodes can hold, of one of nine sorts: the first nine with all keys different,
+/// the next nine with many equal.
 pub fn wide(rng: &mut Rng, sort: usize, nodes: usize) -> Tree {
     let names = Names::new(rng, 900);
     let differ = sort % 18 < 9;
@@ -124,8 +124,8 @@ pub fn wide(rng: &mut Rng, sort: usize, nodes: usize) -> Tree {
     }
 }
 
-/// Sets nested in one merging state: a path of so many attributes, then a set merged at the last but one of them, and so on inside it. With
-/// 16 attributes each level takes 36 nodes and nests 15 sets, some 1,700 in a whole sheet.
+/// Sets nested in one merging state: a path of so many attributes, then a set merged at the last but one of them, and
+/// so on inside it. With 16 attributes each level takes 36 nodes and nests 15 sets, some 1,700 in a whole sheet.
 pub fn merging(rng: &mut Rng, attributes: usize, nodes: usize) -> Tree {
     let attributes = attributes.clamp(2, MAX_ATTRS);
     let names = Names::new(rng, 5);

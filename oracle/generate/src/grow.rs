@@ -158,7 +158,8 @@ impl Grower<'_> {
         rest.into_iter().map(|nodes| inside.with_nodes(each + nodes)).collect()
     }
 
-    /// The room of a small first kid and that of a body, which gets most of it: what a With, a Lambda or a let brings is for its body.
+    /// The room of a small first kid and that of a body, which gets most of it: what a With, a Lambda or a let brings
+    /// is for its body.
     pub fn body_rooms(&mut self, room: Room, percent: usize) -> (Room, Room) {
         let inside = room.inside();
         let most = (inside.nodes * percent / 100).max(inside.nodes.min(2));

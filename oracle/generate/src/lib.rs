@@ -1,5 +1,5 @@
-//! Random sheets, the same from the same seed on every machine: valid ones of many shapes, and damaged ones that break the rules of
-//! docs/RULES.md in every way.
+//! Random sheets, the same from the same seed on every machine: valid ones of many shapes, and damaged ones that break
+//! the rules of docs/RULES.md in every way.
 //!
 //! - `rng`: the source of randomness.
 //! - `tree`: trees that know their kids, and how they become nodes with numbers and pointers.

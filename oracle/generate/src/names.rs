@@ -28,7 +28,8 @@ pub const BUILTINS: [&[u8]; 22] = [
     b"true",
 ];
 
-/// Texts that a comparison may get wrong: the empty one, prefixes of each other and of builtins, bytes from 80 hex on, NUL, line ends.
+/// Texts that a comparison may get wrong: the empty one, prefixes of each other and of builtins, bytes from 80 hex on,
+/// NUL, line ends.
 const ODD: [&[u8]; 26] = [
     b"a",
     b"ab",
@@ -87,8 +88,8 @@ impl Names {
         rng.pick(&self.bound)
     }
 
-    /// A text to refer to, with the names bound around it, outermost first. Weighted so that definitions, builtins, Withs and nothing
-    /// all come up as answers.
+    /// A text to refer to, with the names bound around it, outermost first. Weighted so that definitions, builtins,
+    /// Withs and nothing all come up as answers.
     pub fn reference(&self, rng: &mut Rng, around: &[Vec<u8>]) -> Vec<u8> {
         match rng.below(100) {
             0..30 if !around.is_empty() => rng.pick(around),

@@ -1,5 +1,5 @@
-//! Damage to a sheet's nodes: the lines keep their form, so what is refused is a value, a number of kids, a place, a depth or a node that
-//! is not met.
+//! Damage to a sheet's nodes: the lines keep their form, so what is refused is a value, a number of kids, a place, a
+//! depth or a node that is not met.
 
 use crate::base::{any_flag, any_kind, any_text, node_of_kind, spot, valid};
 use crate::rng::Rng;
@@ -54,7 +54,8 @@ const DAMAGES: [Damage; 25] = [
     }),
 ];
 
-/// A sheet written from damaged nodes, and what the damage is. Now and then there are two damages, and some sheets are still valid.
+/// A sheet written from damaged nodes, and what the damage is. Now and then there are two damages, and some sheets are
+/// still valid.
 pub fn structural(seed: u64) -> (Vec<u8>, &'static str) {
     let mut rng = Rng::new(seed ^ 0x57b0_c7b0_0000_0000);
     let mut nodes = valid(&mut rng);
@@ -154,7 +155,8 @@ fn shift(rng: &mut Rng, kids: &mut [Option<u32>], count: usize) {
     }
 }
 
-/// Makes a node another kind, with a flag and a text that the kind allows, so that only its kids or its place are at fault.
+/// Makes a node another kind, with a flag and a text that the kind allows, so that only its kids or its place are at
+/// fault.
 fn other_kind(rng: &mut Rng, nodes: &mut Vec<Node>) {
     let from = any_kind(rng);
     let node = if rng.chance(60) { node_of_kind(rng, nodes, from) } else { spot(rng, nodes.len()) };
@@ -183,7 +185,8 @@ fn one_too_many(rng: &mut Rng) -> Vec<Node> {
     Tree::full(ROOT, vec![Tree::full(LIST, items)]).nodes(rng, Pointers::Small)
 }
 
-/// The same, with as many kids as the kind counts, all absent: then what is refused is a place or the nodes that are lost.
+/// The same, with as many kids as the kind counts, all absent: then what is refused is a place or the nodes that are
+/// lost.
 fn other_kind_with_kids(rng: &mut Rng, nodes: &mut Vec<Node>) {
     let before = nodes.clone();
     other_kind(rng, nodes);

@@ -87,7 +87,8 @@ const DAMAGES: [Damage; 43] = [
     ("at or over the longest", longest),
 ];
 
-/// A sheet with damage to it, and what the damage is. Now and then a second damage hides the first, and some are still valid.
+/// A sheet with damage to it, and what the damage is. Now and then a second damage hides the first, and some are still
+/// valid.
 pub fn damaged(seed: u64) -> (Vec<u8>, &'static str) {
     let mut rng = Rng::new(seed ^ 0xda3a_6ed0_0000_0000);
     if rng.chance(35) {

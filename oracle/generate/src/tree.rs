@@ -1,4 +1,5 @@
-//! Trees that hold their kids, and how they become the nodes of a sheet: numbers in the order of the walk, and pointers.
+//! Trees that hold their kids, and how they become the nodes of a sheet: numbers in the order of the walk, and
+//! pointers.
 
 use crate::rng::Rng;
 use sheet::{kind::*, Node};

@@ -9,7 +9,8 @@ use sheet::{kind::ROOT, Node, MAX_DEPTH, MAX_NODES};
 const NODE_BYTES: usize = 36;
 const LEAST_NODES: usize = 40;
 
-/// A random valid sheet of at most so many bytes, at least 10,000, and not far below them: grown, wide, of many Withs or of merged sets.
+/// A random valid sheet of at most so many bytes, at least 10,000, and not far below them: grown, wide, of many Withs
+/// or of merged sets.
 pub fn within(seed: u64, bytes: usize) -> Vec<Node> {
     let mut nodes = (bytes / NODE_BYTES).min(MAX_NODES);
     loop {
@@ -47,8 +48,8 @@ fn sized(rng: &mut Rng, nodes: usize) -> Vec<Node> {
     Tree::full(ROOT, vec![tree]).nodes(rng, Pointers::Nested)
 }
 
-/// The deepest valid sheets of at most so many bytes, with what is deep in each: every way of nesting down to depth 256, all ways mixed,
-/// sets that merge into one another, and sets below paths of 16 attributes.
+/// The deepest valid sheets of at most so many bytes, with what is deep in each: every way of nesting down to depth
+/// 256, all ways mixed, sets that merge into one another, and sets below paths of 16 attributes.
 pub fn deepest(bytes: usize) -> Vec<(String, Vec<Node>)> {
     let mut sheets = Vec::new();
     for (number, name) in extreme::nests().iter().enumerate() {

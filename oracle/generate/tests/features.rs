@@ -1,4 +1,5 @@
-//! That the random sheets hold what makes names hard: answers of all four sorts, keys that meet, dynamic keys, inherits, patterns.
+//! That the random sheets hold what makes names hard: answers of all four sorts, keys that meet, dynamic keys,
+//! inherits, patterns.
 
 use generate::names::BUILTINS;
 use generate::Preset;

@@ -11,7 +11,8 @@ fn written(tree: &Tree) -> Vec<u8> {
     sheet::write(&tree.nodes(&mut Rng::new(0), Pointers::Nested))
 }
 
-/// A node of the slot's kind with this kid in the slot, behind so many right items where it is a list's; in a sheet, with its number.
+/// A node of the slot's kind with this kid in the slot, behind so many right items where it is a list's; in a sheet,
+/// with its number.
 fn placed(slot: Slot, items_before: usize, kid: Option<Tree>) -> (Vec<u8>, usize) {
     let mut parent = smallest(slot.kind);
     let item = takes(slot.letter)[0];

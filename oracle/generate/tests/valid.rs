@@ -96,7 +96,8 @@ fn the_zoo_has_every_kind() {
 #[test]
 fn merging() {
     let sheets = accepted(Preset::Merging, 30);
-    // Each set but the innermost goes into the nested set of the path before it, which has one level for each attribute but the last.
+    // Each set but the innermost goes into the nested set of the path before it, which has one level for each attribute
+    // but the last.
     let nested = |nodes: &Vec<Node>| {
         nodes.iter().filter(|node| node.kind == ATTRPATH).map(|path| path.kids.len()).filter(|&kids| kids == 15).sum::<usize>()
     };

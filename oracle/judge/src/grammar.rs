@@ -1,4 +1,5 @@
-//! What docs/RULES.md says of the 33 kinds, as tables: their kids' places, what each place takes, and the rules of flag and text.
+//! What docs/RULES.md says of the 33 kinds, as tables: their kids' places, what each place takes, and the rules of flag
+//! and text.
 
 use crate::cause::{FlagFamily, TextFault};
 use sheet::kind::*;
@@ -54,7 +55,8 @@ impl Place {
     }
 }
 
-/// The kids of a kind: first the counted places, each of which may be absent, then a list of at most `limit` items, none of which may.
+/// The kids of a kind: first the counted places, each of which may be absent, then a list of at most `limit` items,
+/// none of which may.
 #[derive(Debug, Clone, Copy, PartialEq, Eq)]
 pub struct Form {
     pub counted: &'static [Place],

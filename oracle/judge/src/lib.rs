@@ -1,5 +1,6 @@
-//! The refusals 1 to 7 and 31 to 33 of docs/RULES.md, said as rules: every violation of a sheet is collected, each with its place in the
-//! order of checks, and the least one is the answer. Nothing here stops at the first fault; only the order says which fault decides.
+//! The refusals 1 to 7 and 31 to 33 of docs/RULES.md, said as rules: every violation of a sheet is collected, each with
+//! its place in the order of checks, and the least one is the answer. Nothing here stops at the first fault; only the
+//! order says which fault decides.
 //!
 //! - `grammar`: what each kind's flag, text and kids may be.
 //! - `lines`: the rules of single lines, refusals 2, 3 and 31 to 33.
@@ -21,8 +22,8 @@ pub struct Judgement {
     pub cause: Cause,
 }
 
-/// Where a violation stands in the order of checks; the least decides. Lines are ordered by number and then 2 before a wrong value;
-/// steps of the walk by their number and then 5 and 6 of the kid before 4 of what is met there.
+/// Where a violation stands in the order of checks; the least decides. Lines are ordered by number and then 2 before a
+/// wrong value; steps of the walk by their number and then 5 and 6 of the kid before 4 of what is met there.
 #[derive(Debug, Clone, Copy, PartialEq, Eq, PartialOrd, Ord)]
 pub enum Order {
     Length,
@@ -55,8 +56,9 @@ pub fn judge(bytes: &[u8]) -> Result<Vec<Node>, Judgement> {
     }
 }
 
-/// Every violation of a sheet, in no order. Where lines are at fault there are no nodes to speak of, so the tree's rules say nothing; where
-/// `nodes=` is at fault nobody knows which lines there should be, so its violation stands alone.
+/// Every violation of a sheet, in no order. Where lines are at fault there are no nodes to speak of, so the tree's
+/// rules say nothing; where `nodes=` is at fault nobody knows which lines there should be, so its violation stands
+/// alone.
 pub fn violations(bytes: &[u8]) -> Vec<Violation> {
     examine(bytes).1
 }

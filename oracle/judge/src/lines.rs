@@ -82,8 +82,9 @@ impl<'a> Lines<'a> {
         Some(Violation::new(Order::Line { line, check: 2 }, found.start, Cause::Trailing))
     }
 
-    /// The wrong value of this line of this node: refusal 3 or 31 to 33. A line without its form has no value, and a value that another line
-    /// is needed for is only judged where that line is in order: that line comes first and decides by itself.
+    /// The wrong value of this line of this node: refusal 3 or 31 to 33. A line without its form has no value, and a
+    /// value that another line is needed for is only judged where that line is in order: that line comes first and
+    /// decides by itself.
     fn value_fault(&self, line: Line, node: usize, count: usize) -> Option<Violation> {
         let cause = match line {
             Line::Nodes => None,

@@ -1,11 +1,13 @@
 //! The rules of the walk, refusals 4 to 6, and of what it does not meet, refusal 7.
 //!
-//! The nodes are first unfolded into the steps of a depth-first walk, faults or none; then each rule looks at each step by itself.
+//! The nodes are first unfolded into the steps of a depth-first walk, faults or none; then each rule looks at each step
+//! by itself.
 
 use crate::{grammar, Cause, Order, Violation};
 use sheet::Node;
 
-/// One step of the walk: a kid place, with the number of nodes the walk has met before it. The first step is Root's, which has no parent.
+/// One step of the walk: a kid place, with the number of nodes the walk has met before it. The first step is Root's,
+/// which has no parent.
 #[derive(Clone, Copy)]
 struct Step {
     parent: Option<(usize, usize)>,
@@ -15,7 +17,8 @@ struct Step {
 }
 
 impl Step {
-    /// As long as no rule is broken the highest node met is the number of nodes met less one, so the kid wanted next has that number.
+    /// As long as no rule is broken the highest node met is the number of nodes met less one, so the kid wanted next
+    /// has that number.
     fn in_order(&self) -> Option<usize> {
         self.kid.filter(|&kid| kid == self.met)
     }
@@ -39,8 +42,8 @@ pub fn violations(nodes: &[Node]) -> Vec<Violation> {
     violations
 }
 
-/// The steps of the walk. It goes into a kid only where the kid has the number wanted, so that no node is gone into twice: all that lies
-/// behind another number comes after a fault.
+/// The steps of the walk. It goes into a kid only where the kid has the number wanted, so that no node is gone into
+/// twice: all that lies behind another number comes after a fault.
 fn unfold(nodes: &[Node]) -> Vec<Step> {
     let mut steps = Vec::new();
     let mut met = 0;
@@ -73,7 +76,8 @@ fn count_fault(node: &Node) -> Option<Cause> {
     }
 }
 
-/// What is wrong with a kid in its place. A kid beyond the last place has none; that its parent has too many was said before.
+/// What is wrong with a kid in its place. A kid beyond the last place has none; that its parent has too many was said
+/// before.
 fn kid_fault(nodes: &[Node], step: &Step, parent: usize, index: usize) -> Option<Cause> {
     let form = grammar::form(nodes.get(parent)?.kind);
     let place = form.place(index)?;

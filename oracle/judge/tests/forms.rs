@@ -92,8 +92,8 @@ fn every_string(alphabet: &[u8], length: usize, check: &mut dyn FnMut(&[u8])) {
     }
 }
 
-/// Behind each beginning every string is refused with 2, 3 or 32 at a line's first byte or at the end. Only what is missing from a valid
-/// sheet is taken; the alphabet has no letter of a key, so a second line is never in order.
+/// Behind each beginning every string is refused with 2, 3 or 32 at a line's first byte or at the end. Only what is
+/// missing from a valid sheet is taken; the alphabet has no letter of a key, so a second line is never in order.
 #[test]
 fn every_short_string() {
     let beginnings = ["", "nodes=", &ROOT[..1].concat(), &(ROOT[..5].concat() + "kids="), &(ROOT[..6].concat() + "text="), &ROOT.concat()];

@@ -167,7 +167,8 @@ fn kinds_from_1_to_33() {
     }
 }
 
-/// Numbers that a word's end would make right: 2 to the 32nd and 64th, and ten to the 64th, a multiple of both, above the right value.
+/// Numbers that a word's end would make right: 2 to the 32nd and 64th, and ten to the 64th, a multiple of both, above
+/// the right value.
 #[test]
 fn numbers_do_not_wrap() {
     let above =

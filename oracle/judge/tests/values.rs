@@ -1,5 +1,5 @@
-//! Values in the right form that are wrong: 31 for a flag, 32 for a text, 33 for `from` and `to`, 3 for the others. By both checkers, which
-//! must say the same.
+//! Values in the right form that are wrong: 31 for a flag, 32 for a text, 33 for `from` and `to`, 3 for the others. By
+//! both checkers, which must say the same.
 
 use sheet::{short, Refusal};
 
@@ -10,8 +10,8 @@ fn said(sheet: &[u8]) -> Option<(u32, u32)> {
     forward.err().map(|Refusal { number, place }| (number, place))
 }
 
-/// The sheet of a tree with some of its lines replaced, by their numbers: `nodes=` is line 0, and node n has the six from 6n + 1 on. The
-/// number of the refusal, and that of the line at whose first byte it is.
+/// The sheet of a tree with some of its lines replaced, by their numbers: `nodes=` is line 0, and node n has the six
+/// from 6n + 1 on. The number of the refusal, and that of the line at whose first byte it is.
 fn refused(tree: &str, edits: &[(usize, &str)]) -> (u32, usize) {
     let (number, place, starts) = edited(tree, edits);
     (number, starts.iter().position(|&start| start == place).expect("the place is a line's first byte"))

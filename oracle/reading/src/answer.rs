@@ -1,6 +1,7 @@
-//! Document 01, "Scopes and answers": what a use of a name means, by the rule of the Nix Reference Manual. A name means its innermost
-//! enclosing definition (function parameter, let, rec set); a name without one may be a built-in; one that is not may come from any
-//! enclosing `with`, the innermost first, for a `with` never takes a name over from a definition or a built-in.
+//! Document 01, "Scopes and answers": what a use of a name means, by the rule of the Nix Reference Manual. A name means
+//! its innermost enclosing definition (function parameter, let, rec set); a name without one may be a built-in; one
+//! that is not may come from any enclosing `with`, the innermost first, for a `with` never takes a name over from a
+//! definition or a built-in.
 
 use std::collections::BTreeMap;
 
@@ -32,7 +33,8 @@ pub const BUILTINS: [&str; 22] = [
     "true",
 ];
 
-/// The answers of all References, and each name's kept references: "exactly those answered 1 with that name, ascending".
+/// The answers of all References, and each name's kept references: "exactly those answered 1 with that name,
+/// ascending".
 pub(crate) fn resolve(module: &Module, scopes: &Scopes) -> Resolution {
     let mut answers = BTreeMap::new();
     let mut references = vec![Vec::new(); module.names.len()];
@@ -48,8 +50,8 @@ pub(crate) fn resolve(module: &Module, scopes: &Scopes) -> Resolution {
     Resolution { answers, references }
 }
 
-/// "A Reference without scope: 0 none. Else 1, the innermost definition; else 2, the index in the 22 names; else 3, all enclosing Withs,
-/// innermost first; else 0."
+/// "A Reference without scope: 0 none. Else 1, the innermost definition; else 2, the index in the 22 names; else 3, all
+/// enclosing Withs, innermost first; else 0."
 fn answer(module: &Module, scopes: &Scopes, scope: Option<ScopeId>, text: &[u8]) -> Answer {
     let Some(scope) = scope else { return Answer::None };
     if let Some(name) = definition(module, scopes, scope, text) {

@@ -1,10 +1,10 @@
-//! A reading of the requirements (docs/RULES.md has them in other words) that was written from their sentences, without the Rust they
-//! describe: what a sheet lowers to, which scopes it has and what each Reference answers. It is there to be compared with the Rust, so
-//! it goes the plain way wherever there is a choice.
+//! A reading of the requirements (docs/RULES.md has them in other words) that was written from their sentences, without
+//! the Rust they describe: what a sheet lowers to, which scopes it has and what each Reference answers. It is there to
+//! be compared with the Rust, so it goes the plain way wherever there is a choice.
 //!
-//! The files lie beside the sections of docs/RULES.md: `lower` (expressions, names, pointers), `merge` (sets and lets), `scopes` and
-//! `answer`. Sentences in quotes are the requirements'; D1 and its like are points of docs/DECISIONS.md, which settles what those words
-//! leave open. Where both leave something open the comment begins with `OPEN:`.
+//! The files lie beside the sections of docs/RULES.md: `lower` (expressions, names, pointers), `merge` (sets and lets),
+//! `scopes` and `answer`. Sentences in quotes are the requirements'; D1 and its like are points of docs/DECISIONS.md,
+//! which settles what those words leave open. Where both leave something open the comment begins with `OPEN:`.
 
 use canon::{Expr, ExprId, Facts, Module, NameId, Reading, Resolution, Scopes};
 use sheet::Node;
@@ -18,9 +18,9 @@ pub use answer::BUILTINS;
 
 /// A loaded sheet: its module with the texts as they now read, and its scopes as loaded.
 ///
-/// "A change sets one text and nothing else in the module: the order of entering, the scopes and the diagnostics remain as loaded."
-/// So the texts of names and References are the only part that is ever written again; scopes speak of names by number, and key literals
-/// and diagnostics have copies of the loaded text.
+/// "A change sets one text and nothing else in the module: the order of entering, the scopes and the diagnostics remain
+/// as loaded." So the texts of names and References are the only part that is ever written again; scopes speak of names
+/// by number, and key literals and diagnostics have copies of the loaded text.
 #[derive(Debug, Clone)]
 pub struct Plain {
     module: Module,
@@ -28,7 +28,8 @@ pub struct Plain {
 }
 
 impl Plain {
-    /// Lowers the nodes of an accepted sheet and walks the result. A list of nodes that the refusals 3 to 7 would stop may panic.
+    /// Lowers the nodes of an accepted sheet and walks the result. A list of nodes that the refusals 3 to 7 would stop
+    /// may panic.
     ///
     /// Some 2,000 levels of expressions are gone through by recursion: call it on a thread with a large stack.
     pub fn new(nodes: &[Node]) -> Plain {

@@ -1,5 +1,6 @@
-//! Document 01, "Lowering": expressions, names and their pointers. "Expressions and names are numbered from 0 as `lower` allocates them":
-//! the kids of a node in order, then the node's own expression; where another order holds, a comment says so.
+//! Document 01, "Lowering": expressions, names and their pointers. "Expressions and names are numbered from 0 as
+//! `lower` allocates them": the kids of a node in order, then the node's own expression; where another order holds, a
+//! comment says so.
 
 use std::collections::BTreeMap;
 
@@ -100,8 +101,9 @@ impl<'a> Lowering<'a> {
     }
 }
 
-/// "The source map's pointer-to-number side keeps the last writer." A pointer is written when its expression or name is allocated, and
-/// numbers ascend in the order of allocation: so the last writer is the highest number that has the pointer.
+/// "The source map's pointer-to-number side keeps the last writer." A pointer is written when its expression or name is
+/// allocated, and numbers ascend in the order of allocation: so the last writer is the highest number that has the
+/// pointer.
 fn last_writers(pointers: impl Iterator<Item = Option<Pointer>>) -> BTreeMap<Pointer, u32> {
     let mut by_pointer = BTreeMap::new();
     for (number, pointer) in (0..).zip(pointers) {
@@ -114,7 +116,8 @@ fn last_writers(pointers: impl Iterator<Item = Option<Pointer>>) -> BTreeMap<Poi
 
 /// Expressions.
 impl<'a> Lowering<'a> {
-    /// The expression of a place. "An absent expression ... give[s] Missing without a pointer"; "Paren and Root give the inner number".
+    /// The expression of a place. "An absent expression ... give[s] Missing without a pointer"; "Paren and Root give
+    /// the inner number".
     pub(crate) fn expr(&mut self, place: Place) -> ExprId {
         let Some(number) = place else { return self.missing() };
         let node = self.node(number);
@@ -175,8 +178,8 @@ impl<'a> Lowering<'a> {
 
     /// "a flag-0 Ident as a path attribute" gives Missing without a pointer: here, and not in an entry's path (D2).
     ///
-    /// OPEN: the rule on static keys inside a Dynamic is read as one on the keys of sets. Here a Dynamic gives what is inside it, so that
-    /// in `e.${"a"}` the text has the pointer of the Str.
+    /// OPEN: the rule on static keys inside a Dynamic is read as one on the keys of sets. Here a Dynamic gives what is
+    /// inside it, so that in `e.${"a"}` the text has the pointer of the Str.
     fn path_attribute(&mut self, attr: Place) -> ExprId {
         let node = self.item(attr);
         match node.kind {
@@ -199,7 +202,8 @@ impl<'a> Lowering<'a> {
 
     /// A text where the Str would be a static key, else its parts.
     ///
-    /// OPEN: what two parts without interpolation give. No Nix text gives them, and as a key they are dynamic (D3): the parts.
+    /// OPEN: what two parts without interpolation give. No Nix text gives them, and as a key they are dynamic (D3): the
+    /// parts.
     fn string(&mut self, node: &'a Node) -> Expr {
         match self.plain_text(node) {
             Some(text) => Expr::Literal(Literal::Text(text)),
@@ -269,8 +273,8 @@ impl<'a> Lowering<'a> {
         Pat { fields, ellipsis: node.flag == 1 }
     }
 
-    /// "A flag-0 Ident as parameter, bind or pattern entry gives a name with the empty text; an absent one gives no name" (D6). It
-    /// has the Ident's pointer, as the Ident gives it.
+    /// "A flag-0 Ident as parameter, bind or pattern entry gives a name with the empty text; an absent one gives no
+    /// name" (D6). It has the Ident's pointer, as the Ident gives it.
     fn ident_name(&mut self, ident: Place, kind: NameKind) -> Option<NameId> {
         let node = self.node(ident?);
         Some(self.alloc_name(node.text.clone(), kind, pointer(node)))
@@ -279,8 +283,8 @@ impl<'a> Lowering<'a> {
 
 /// Keys of sets.
 impl<'a> Lowering<'a> {
-    /// "A static key is an Ident, or a Str without interpolation and with at most one part; such a Str, but no Ident, also inside Dynamic
-    /// and any Parens. No text means the empty key."
+    /// "A static key is an Ident, or a Str without interpolation and with at most one part; such a Str, but no Ident,
+    /// also inside Dynamic and any Parens. No text means the empty key."
     pub(crate) fn key(&self, attr: Place) -> Key {
         let node = self.item(attr);
         let (text, dynamic) = match node.kind {

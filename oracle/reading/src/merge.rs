@@ -1,9 +1,10 @@
-//! Document 01, "Lowering", the rules on sets and lets: keys in byte order, paths that make nested sets, sets that merge, inherits,
-//! dynamics and duplicates.
+//! Document 01, "Lowering", the rules on sets and lets: keys in byte order, paths that make nested sets, sets that
+//! merge, inherits, dynamics and duplicates.
 //!
-//! The state of merging one explicit set or let is a list of numbered sets (number 0 is the explicit one, each further one was made by a
-//! path) and of entries, each known by its set's number and its key. No set holds another, so that a nested set can be found and added to
-//! by its number; only at the end are they built, from the inside out and in key order. An inner explicit set has a state of its own.
+//! The state of merging one explicit set or let is a list of numbered sets (number 0 is the explicit one, each further
+//! one was made by a path) and of entries, each known by its set's number and its key. No set holds another, so that a
+//! nested set can be found and added to by its number; only at the end are they built, from the inside out and in key
+//! order. An inner explicit set has a state of its own.
 
 use std::collections::BTreeMap;
 
@@ -93,8 +94,8 @@ impl Merging {
             Key::Static(key) => key,
             Key::Dynamic(key) => return self.dynamic(low, set, key, value),
         };
-        // "a value AttrSet, not in Parens, merges into a nested set already there and its rec is dropped": it gets no expression of its
-        // own, and its names are of the nested set's kind.
+        // "a value AttrSet, not in Parens, merges into a nested set already there and its rec is dropped": it gets no
+        // expression of its own, and its names are of the nested set's kind.
         if let (Some(entries), Some(nested)) = (low.set_value(value), self.nested_at(set, &key)) {
             return self.merge(low, nested, entries);
         }
@@ -109,8 +110,8 @@ impl Merging {
         self.sets[set].dynamics.push((key, value));
     }
 
-    /// "A Dynamic key before the end of a path: nested set first, key second." What follows the key is built at once (D11) and can
-    /// be merged with nothing, so it has a state of its own.
+    /// "A Dynamic key before the end of a path: nested set first, key second." What follows the key is built at once
+    /// (D11) and can be merged with nothing, so it has a state of its own.
     fn below_dynamic(&mut self, low: &mut Lowering, set: SetNumber, key: Place, made_by: Pointer, rest: (&[Place], Place)) {
         let mut below = Merging::new(NameKind::PlainAttrset, made_by);
         below.path_value(low, WHOLE, rest.0, rest.1);
@@ -136,8 +137,8 @@ impl Merging {
         }
     }
 
-    /// "Inherit-from attributes give a text literal, then a Select"; a plain one a Reference (D7). All have the attribute's pointer
-    /// (D10), and come before the name (D11).
+    /// "Inherit-from attributes give a text literal, then a Select"; a plain one a Reference (D7). All have the
+    /// attribute's pointer (D10), and come before the name (D11).
     fn inherited(&mut self, low: &mut Lowering, set: SetNumber, source: Option<ExprId>, key: Vec<u8>, at: Pointer) {
         let value = match source {
             None => BindingValue::Inherit(low.alloc(Expr::Reference(key.clone()), Some(at))),
@@ -157,10 +158,11 @@ impl Merging {
         self.entries.get(&(set, key.to_vec()))?.nested
     }
 
-    /// "Any other second value at a key adds a DuplicateKey (first: the name's pointer) and replaces the value; a nested set still wins."
+    /// "Any other second value at a key adds a DuplicateKey (first: the name's pointer) and replaces the value; a
+    /// nested set still wins."
     ///
-    /// Second is each value at a key that is there already, be it by a value, a path or an inherit, and also where a path dropped the
-    /// first value.
+    /// Second is each value at a key that is there already, be it by a value, a path or an inherit, and also where a
+    /// path dropped the first value.
     fn put(&mut self, low: &mut Lowering, set: SetNumber, key: Vec<u8>, at: Pointer, value: BindingValue) {
         if let Some(entry) = self.entries.get_mut(&(set, key.clone())) {
             entry.value = Some(value);
@@ -170,8 +172,9 @@ impl Merging {
         self.entries.insert((set, key), Entry { name, nested: None, value: Some(value) });
     }
 
-    /// The nested set of a key, made where there is none: "A path makes nested sets of kind PlainAttrset". It has the pointer of the
-    /// attribute that made it (D10). "A path after a value makes the nested set, drops the value and adds no diagnostic."
+    /// The nested set of a key, made where there is none: "A path makes nested sets of kind PlainAttrset". It has the
+    /// pointer of the attribute that made it (D10). "A path after a value makes the nested set, drops the value and
+    /// adds no diagnostic."
     fn nested(&mut self, low: &mut Lowering, set: SetNumber, key: Vec<u8>, made_by: Pointer) -> SetNumber {
         if let Some(nested) = self.nested_at(set, &key) {
             return nested;

@@ -1,5 +1,5 @@
-//! Document 01, "Scopes and answers": which scope each walked expression lies in. "Walking an expression enters bindings, and walking
-//! bindings enters expressions again": `Walk::expr` and `Walk::bindings` are the two walkers.
+//! Document 01, "Scopes and answers": which scope each walked expression lies in. "Walking an expression enters
+//! bindings, and walking bindings enters expressions again": `Walk::expr` and `Walk::bindings` are the two walkers.
 
 use canon::{BindingValue, Bindings, Expr, ExprId, Module, NameId, Part, Pat, Scope, ScopeId, ScopeKind, Scopes};
 
@@ -52,7 +52,8 @@ impl<'a> Walk<'a> {
 
     /// "Lambda (parameter, then fields) ... open a scope if they have a name." Defaults and body lie inside.
     ///
-    /// OPEN: whether the defaults or the body are walked first, which the numbers of scopes show. The defaults, as they are written first.
+    /// OPEN: whether the defaults or the body are walked first, which the numbers of scopes show. The defaults, as they
+    /// are written first.
     fn lambda(&mut self, param: Option<NameId>, pat: Option<&'a Pat>, body: ExprId, scope: ScopeId) {
         let fields = pat.map_or(&[][..], |pat| &pat.fields);
         let names = param.into_iter().chain(fields.iter().filter_map(|(name, _)| *name)).collect();
@@ -63,7 +64,8 @@ impl<'a> Walk<'a> {
         self.expr(body, inside);
     }
 
-    /// Walks the bindings of a let or a set and gives the scope inside. `opens`: a let or a rec set; "A plain set opens none."
+    /// Walks the bindings of a let or a set and gives the scope inside. `opens`: a let or a rec set; "A plain set opens
+    /// none."
     ///
     /// Order of walking (D13): plain inherits outside, the scope, values in key order, sources, dynamics (key, value).
     fn bindings(&mut self, bindings: &'a Bindings, opens: bool, scope: ScopeId) -> ScopeId {
@@ -104,7 +106,8 @@ impl<'a> Walk<'a> {
     }
 }
 
-/// The children of an expression that opens nothing, in the order of its fields. Those that have a rule of their own give none here.
+/// The children of an expression that opens nothing, in the order of its fields. Those that have a rule of their own
+/// give none here.
 fn children(expr: &Expr) -> Vec<ExprId> {
     match expr {
         Expr::Missing | Expr::Literal(_) | Expr::Reference(_) => Vec::new(),

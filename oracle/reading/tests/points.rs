@@ -1,4 +1,5 @@
-//! docs/DECISIONS.md, D1 to D14: every tree, with its counts and answers; and uses of what docs/DIFFERENCES.md tells of Nix.
+//! docs/DECISIONS.md, D1 to D14: every tree, with its counts and answers; and uses of what docs/DIFFERENCES.md tells of
+//! Nix.
 
 mod common;
 

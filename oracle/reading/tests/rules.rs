@@ -137,7 +137,8 @@ fn the_deepest_expressions() {
 
 #[test]
 fn the_deepest_merging_state() {
-    // `{ a.a...z = 1; a.a... = { the same again }; }`: the second entry's path ends at the nested set that the first one made.
+    // `{ a.a...z = 1; a.a... = { the same again }; }`: the second entry's path ends at the nested set that the first
+    // one made.
     let level = |inner: &str| {
         let fifteen = vec![r#"18"a""#; 15].join(",");
         format!("{},25(23({fifteen}),16({inner}))", long_path("10"))

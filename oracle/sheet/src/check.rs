@@ -1,7 +1,7 @@
 //! Refusals 1 to 7 and 31 to 33, read forward as docs/RULES.md tells them: the lines first, then the walk of the tree.
 //!
-//! `check` stops at the first thing that is wrong. (The crate `judge` reads the same rules the other way round: it lists all that is
-//! wrong and takes the least.)
+//! `check` stops at the first thing that is wrong. (The crate `judge` reads the same rules the other way round: it
+//! lists all that is wrong and takes the least.)
 
 use crate::{kind, Node, Refusal, MAX_ATTRS, MAX_BYTES, MAX_DEPTH, MAX_NODES};
 

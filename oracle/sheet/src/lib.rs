@@ -70,7 +70,8 @@ pub struct Refusal {
 
 const HEX: &[u8; 16] = b"0123456789abcdef";
 
-/// The sheet of these nodes, six lines for each. It writes what it is given: a list that breaks a rule gives a sheet that is refused.
+/// The sheet of these nodes, six lines for each. It writes what it is given: a list that breaks a rule gives a sheet
+/// that is refused.
 pub fn write(nodes: &[Node]) -> Vec<u8> {
     let mut out = format!("nodes={}\n", nodes.len()).into_bytes();
     for node in nodes {

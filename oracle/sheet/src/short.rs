@@ -1,8 +1,9 @@
-//! A short notation for trees, for tests and for people: `kind(kids)`, `"text"` after the kind, `!flag`, `-` for an absent kid, and
-//! `@from..to` for a pointer of one's own. `21(11(28(18"x"),18"x"))` is `x: x`.
+//! A short notation for trees, for tests and for people: `kind(kids)`, `"text"` after the kind, `!flag`, `-` for an
+//! absent kid, and `@from..to` for a pointer of one's own. `21(11(28(18"x"),18"x"))` is `x: x`.
 //!
-//! An Ident or a Float with a text has flag 1 unless a flag is given. In a text `\xHH` is a byte, `\"` and `\\` are themselves. Where no pointer is given a node
-//! goes from its own number to the number after its subtree's last, so that no two nodes have the same.
+//! An Ident or a Float with a text has flag 1 unless a flag is given. In a text `\xHH` is a byte, `\"` and `\\` are
+//! themselves. Where no pointer is given a node goes from its own number to the number after its subtree's last, so
+//! that no two nodes have the same.
 
 use crate::{kind, Node};
 

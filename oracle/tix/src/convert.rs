@@ -1,4 +1,5 @@
-//! From lang_ast's own results to the canonical form. Nothing is worked out here: numbers, pointers, scopes and answers are read off.
+//! From lang_ast's own results to the canonical form. Nothing is worked out here: numbers, pointers, scopes and answers
+//! are read off.
 
 use std::collections::HashMap;
 

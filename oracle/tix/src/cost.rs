@@ -1,8 +1,9 @@
 //! What lang_ast's walk for the edges would cost, worked out before it is made.
 //!
-//! The walk goes through the Select of an inherit-from once for each inherited attribute, and so through its source as often. On some
-//! legal sheets that doubles at every level. It also copies the list of active narrowings at every branch and binding. Children have
-//! lower numbers than their parents, so both can be summed up from the lowest number on.
+//! The walk goes through the Select of an inherit-from once for each inherited attribute, and so through its source as
+//! often. On some legal sheets that doubles at every level. It also copies the list of active narrowings at every
+//! branch and binding. Children have lower numbers than their parents, so both can be summed up from the lowest number
+//! on.
 
 use lang_ast::narrow::detect_conditional_fn;
 use lang_ast::{BinOP, BindingValue, Bindings, BoolBinOp, Expr, ExprBinOp, ExprId, Module, NormalBinOp};
@@ -125,7 +126,8 @@ impl Costs<'_> {
         self.walk_of(body).with_list().under(self.analysis_of(cond).found)
     }
 
-    /// The argument of an application; under narrowings where the function is one like `optionalString` with its condition.
+    /// The argument of an application; under narrowings where the function is one like `optionalString` with its
+    /// condition.
     fn argument(&self, fun: ExprId, arg: ExprId) -> Walk {
         match &self.module[fun] {
             &Expr::Apply { fun: inner, arg: cond } if detect_conditional_fn(self.module, inner).is_some() => {

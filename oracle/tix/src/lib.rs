@@ -1,4 +1,5 @@
-//! The original Rust of lang_ast as a reading of the rules: lowering, scopes and answers over a sheet's nodes, put into canonical form.
+//! The original Rust of lang_ast as a reading of the rules: lowering, scopes and answers over a sheet's nodes, put into
+//! canonical form.
 
 mod convert;
 mod cost;
@@ -12,7 +13,8 @@ use lang_ast::{Module, ModuleScopes, ModuleSourceMap, NameResolution};
 /// The stack that `with_big_stack` sets aside; only what is used of it becomes memory.
 const BIG_STACK: usize = 512 << 20;
 
-/// Runs `f` on a thread with a stack that is big enough for the deepest sheet, as all of lang_ast calls itself along a tree.
+/// Runs `f` on a thread with a stack that is big enough for the deepest sheet, as all of lang_ast calls itself along a
+/// tree.
 pub fn with_big_stack<T: Send>(f: impl FnOnce() -> T + Send) -> T {
     std::thread::scope(|scope| {
         let thread = std::thread::Builder::new().stack_size(BIG_STACK).spawn_scoped(scope, f);
@@ -21,7 +23,8 @@ pub fn with_big_stack<T: Send>(f: impl FnOnce() -> T + Send) -> T {
     })
 }
 
-/// A sheet as lang_ast lowers it, with texts that can be set. A deep sheet wants a thread of `with_big_stack` around every call.
+/// A sheet as lang_ast lowers it, with texts that can be set. A deep sheet wants a thread of `with_big_stack` around
+/// every call.
 #[derive(Debug, Clone)]
 pub struct Tix {
     module: Module,
@@ -52,8 +55,8 @@ impl Tix {
         cost::of_edges(&self.module)
     }
 
-    /// The edges of `NameDependencies::new` for the texts as they now read: pairs of binding and definition, ascending, each once.
-    /// An error where the walk would cost more than `EDGE_BUDGET`.
+    /// The edges of `NameDependencies::new` for the texts as they now read: pairs of binding and definition, ascending,
+    /// each once. An error where the walk would cost more than `EDGE_BUDGET`.
     pub fn edges(&self) -> Result<Vec<(NameId, NameId)>, String> {
         let cost = self.edge_cost();
         if cost.total() > EDGE_BUDGET {
@@ -72,7 +75,8 @@ impl Tix {
 }
 
 impl Reading for Tix {
-    /// Everything as it now reads: as loaded until a text is set, and afterwards with the texts and answers that follow.
+    /// Everything as it now reads: as loaded until a text is set, and afterwards with the texts and answers that
+    /// follow.
     fn facts(&self) -> Facts {
         let (scopes, answers) = self.resolve();
         Facts {

@@ -52,7 +52,8 @@ fn edges_follow_the_texts() {
     assert_eq!(tix.edges().unwrap(), [(0, 1)]);
 }
 
-/// `x: let a = ..; in a` with a let under a condition that narrows x: an if, an assert, and a function like `lib.optional`.
+/// `x: let a = ..; in a` with a let under a condition that narrows x: an if, an assert, and a function like
+/// `lib.optional`.
 fn narrowing_trees() -> [String; 4] {
     let cond = r#"14!7(1(18"isNull",18"x"),17!1(14!8(14!10(18"x",18"null"),5(18"x",23(18"f")))))"#;
     let inner = r#"12(18"b",25(23(18"b"),18"x"))"#;

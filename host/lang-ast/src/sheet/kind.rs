@@ -304,7 +304,8 @@ impl Kind {
         }
     }
 
-    /// Whether flag and text are such as its kind may have. The type leaves only two faults: of a Float's value and of an Integer's digits.
+    /// Whether flag and text are such as its kind may have. The type leaves only two faults: of a Float's value and of
+    /// an Integer's digits.
     pub(crate) fn value_fits(&self) -> bool {
         match self {
             Kind::Float(Some(value)) => value.to_bits() <= INFINITY,

@@ -1,6 +1,7 @@
-//! What an accepted change leaves in any sound store, as docs/STORE.md says it: the new text behind those in use, other answers and
-//! references, words in the table of items that wait, and nothing else. The References that bear the old or the new text have the answer
-//! that the rule of docs/RULES.md gives over the store's scopes; what no load makes may hold other answers, and those stay.
+//! What an accepted change leaves in any sound store, as docs/STORE.md says it: the new text behind those in use, other
+//! answers and references, words in the table of items that wait, and nothing else. The References that bear the old or
+//! the new text have the answer that the rule of docs/RULES.md gives over the store's scopes; what no load makes may
+//! hold other answers, and those stay.
 
 use crate::store::asked::text_of;
 use crate::store::layout::{get, header, KEPT, REFERENCES, TEXTS, USES, WAITING};

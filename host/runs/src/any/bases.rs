@@ -1,4 +1,5 @@
-//! The stores that calls are made on, before they are damaged: loaded ones, changed ones, sound ones that no load makes, and any bytes.
+//! The stores that calls are made on, before they are damaged: loaded ones, changed ones, sound ones that no load
+//! makes, and any bytes.
 
 use crate::calls::changes::{can_change, Changes, Target};
 use crate::exported::{self, REPLY};

@@ -1,4 +1,5 @@
-//! What is printed when a call touches what it was not lent, or does not end: which call it was. The process ends with it.
+//! What is printed when a call touches what it was not lent, or does not end: which call it was. The process ends with
+//! it.
 
 use std::cell::Cell;
 use std::ffi::{c_int, c_void};
@@ -95,7 +96,8 @@ const UNENDED: &[u8] = b"A CALL DID NOT END";
 
 extern "C" fn ended(number: c_int) {
     if number == SIGALRM {
-        // Any thread may be stopped by the alarm. It comes when none has begun a store for so long, so every one that is at a store is late.
+        // Any thread may be stopped by the alarm. It comes when none has begun a store for so long, so every one that
+        // is at a store is late.
         let at_work = SLOT.iter().find(|slot| slot.begun.load(Relaxed) != 0);
         end_with(UNENDED, at_work.unwrap_or(&SLOT[0]));
     }

@@ -1,5 +1,6 @@
-//! Memory to lend that lies between pages which can't be touched, and that is seen twice: the host writes it in one view, and lends it in
-//! the other, in which it can be written or only read. A slice that is only read can't be written by the call, or the process ends.
+//! Memory to lend that lies between pages which can't be touched, and that is seen twice: the host writes it in one
+//! view, and lends it in the other, in which it can be written or only read. A slice that is only read can't be written
+//! by the call, or the process ends.
 
 use crate::store::UNWRITTEN;
 use std::ffi::{c_char, c_int, c_void};
@@ -110,7 +111,8 @@ impl Drop for Guarded {
 /// A view of the file between two pages that can't be touched.
 fn view(file: c_int, bytes: usize, access: c_int) -> Result<*mut u8, String> {
     let failed = |at: *mut c_void| at as isize == -1;
-    // First all of it from the file's own length and two pages, none of which can be touched; then the middle is opened.
+    // First all of it from the file's own length and two pages, none of which can be touched; then the middle is
+    // opened.
     let whole = unsafe { mmap(std::ptr::null_mut(), bytes + 2 * PAGE, NO_ACCESS, SHARED, file, 0) };
     if failed(whole) {
         return Err("memory can't be mapped".to_string());

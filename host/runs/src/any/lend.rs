@@ -92,7 +92,8 @@ fn lent_bytes<'a>(memory: &mut Guarded, bytes: &[u8], side: Side) -> &'a [u8] {
     memory.lent(bytes.len(), side, Access::Read)
 }
 
-/// Whether a slice holds these words and nothing else was written in it and beside it; it is unwritten again afterwards.
+/// Whether a slice holds these words and nothing else was written in it and beside it; it is unwritten again
+/// afterwards.
 fn holds(memory: &mut Guarded, length: usize, side: Side, words: &[u32]) -> Result<(), String> {
     let edge = memory.edge_stands(length, side);
     let (told, rest) = memory.own(length, side).split_at_mut(4 * words.len());

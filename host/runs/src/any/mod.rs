@@ -1,7 +1,9 @@
-//! Calls on any bytes at all. Sheet, store, text, buffer and reply lie between pages that can't be touched, a store that a call is not to
-//! write can only be read, and every number, reply and list is what docs/STORE.md gives for these bytes. How long each call took.
+//! Calls on any bytes at all. Sheet, store, text, buffer and reply lie between pages that can't be touched, a store
+//! that a call is not to write can only be read, and every number, reply and list is what docs/STORE.md gives for these
+//! bytes. How long each call took.
 //!
-//! - `guard`: the memory; `lend`: calls over it; `fault`: what is printed when a call touches what it was not lent, or does not end.
+//! - `guard`: the memory; `lend`: calls over it; `fault`: what is printed when a call touches what it was not lent, or
+//!   does not end.
 //! - `bases`: the stores; `draw`: the calls; `after`: what an accepted change leaves.
 //! - `seen`: what the calls met, and the longest of them; `clock`: what their times are read from.
 
@@ -172,7 +174,8 @@ impl Run<'_> {
         replied.and(listed)
     }
 
-    /// What an accepted change leaves: the new text, a store that is in order, and nothing written but what a change writes.
+    /// What an accepted change leaves: the new text, a store that is in order, and nothing written but what a change
+    /// writes.
     fn changed(&mut self, place: &Place, damage: &Damage, call: &Call, at: usize) -> Result<(), String> {
         let (Call::ChangeReference { text, .. } | Call::ChangeName { text, .. }) = call else { return Ok(()) };
         if !self.memory.store.edge_stands(place.length, place.at) {
@@ -219,7 +222,8 @@ impl Run<'_> {
     }
 }
 
-/// What is lent of a store, to be read unless it is said otherwise. A shorter store is any part of the memory, at the same end.
+/// What is lent of a store, to be read unless it is said otherwise. A shorter store is any part of the memory, at the
+/// same end.
 fn lent(place: &Place, damage: &Damage, rng: &mut Rng) -> Lent {
     Lent { length: damage.length.unwrap_or(place.length), at: place.at, access: Access::Read, side: draw::side(rng) }
 }
@@ -230,7 +234,8 @@ fn exchange(store: &mut [u8], at: usize, word: u32) -> u32 {
     before
 }
 
-/// So many damages of a store, some of which leave it as it is. One that is not sound gets a few other words in its header, or is cut.
+/// So many damages of a store, some of which leave it as it is. One that is not sound gets a few other words in its
+/// header, or is cut.
 fn damages(store: &[u8], rng: &mut Rng, calls: u64) -> Vec<Damage> {
     let none = Damage { kind: "no damage", words: Vec::new(), length: None, must: Must::Either };
     let mut all = match sound::condition(store) {

@@ -180,7 +180,8 @@ impl Changes {
         self.some_name(facts)
     }
 
-    /// The text of a Reference whose scope is the target's or inside it, so that a name of this text would be its answer.
+    /// The text of a Reference whose scope is the target's or inside it, so that a name of this text would be its
+    /// answer.
     fn use_inside(&mut self, facts: &Facts, target: Target) -> Vec<u8> {
         let Some(outer) = scope_of(facts, target) else { return self.some_reference(facts) };
         let inside = |e: &&u32| facts.scopes.of_expr[**e as usize].is_some_and(|scope| is_inside(&facts.scopes, scope, outer));

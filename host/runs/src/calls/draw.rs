@@ -41,7 +41,8 @@ impl Calls {
         call
     }
 
-    /// A change that may be accepted: where its text is longer than what is left of the room, it is cut as often as not.
+    /// A change that may be accepted: where its text is longer than what is left of the room, it is cut as often as
+    /// not.
     fn change(&mut self, facts: &Facts, room: usize) -> Call {
         let room = if self.rng.chance(50) { room } else { usize::MAX };
         change_call(self.changes.next(facts, room))
@@ -93,7 +94,8 @@ impl Calls {
         self.rng.pick(&[exact, exact, exact + 1, exact + 64, exact.saturating_sub(1), exact.saturating_sub(4), 0, shorter])
     }
 
-    /// Another number: at the end of those that there are, past it, of an expression that is no Reference, or where a sum would wrap.
+    /// Another number: at the end of those that there are, past it, of an expression that is no Reference, or where a
+    /// sum would wrap.
     fn misnumber(&mut self, call: &mut Call, facts: &Facts) {
         let (exprs, names) = (facts.module.exprs.len() as u32, facts.module.names.len() as u32);
         let none = (0..exprs).filter(|&e| !matches!(facts.module.exprs[e as usize], Expr::Reference(_)));

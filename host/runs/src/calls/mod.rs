@@ -1,5 +1,6 @@
-//! Calls, one after the other, on loaded sheets: number, reply and buffer of each, and the whole store after it, are what the oracle's book
-//! works out afresh over the Rust; and what a change moved is what a change of that text may move.
+//! Calls, one after the other, on loaded sheets: number, reply and buffer of each, and the whole store after it, are
+//! what the oracle's book works out afresh over the Rust; and what a change moved is what a change of that text may
+//! move.
 //!
 //! - `changes`: random changes of text; `draw`: random calls, refused ones among them.
 //! - `seen`: what the calls of a run met.
@@ -88,8 +89,8 @@ impl Sheets {
         Ok(Sheets { points: points.collect(), large: sheets::large(), long: long_texts() })
     }
 
-    /// The sheet of a seed: every fourth is a point, one in fifty a large one, one has long texts, one is like a NixOS module, and the
-    /// others are random.
+    /// The sheet of a seed: every fourth is a point, one in fifty a large one, one has long texts, one is like a NixOS
+    /// module, and the others are random.
     fn of_seed(&self, seed: u64) -> Named {
         let turn = |list: &[Named], number: u64| list[number as usize % list.len()].clone();
         match seed % 50 {

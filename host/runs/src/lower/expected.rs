@@ -3,7 +3,8 @@
 use crate::store::module::*;
 use canon::{BindingValue, Literal, NameKind};
 
-/// The module as it stands in a store with so many bytes of texts in use. Nothing is spent, and there are no scopes and answers yet.
+/// The module as it stands in a store with so many bytes of texts in use. Nothing is spent, and there are no scopes and
+/// answers yet.
 pub fn module(of: &canon::Module, texts: u32) -> Result<Module<'_>, String> {
     let exprs = of.exprs.iter().zip(&of.expr_pointers).map(|(expr, at)| placed(expr, *at)).collect::<Result<_, _>>()?;
     let names = of.names.iter().zip(&of.name_pointers).map(|(name, &at)| named(name, at)).collect();

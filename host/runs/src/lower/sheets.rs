@@ -6,7 +6,8 @@ use generate::{Preset, Rng, Shape};
 use sheet::kind::*;
 use sheet::{Node, MAX_ATTRS, MAX_DEPTH, MAX_NODES};
 
-/// A random valid sheet of up to so many nodes; most are small, since small ones meet the odd cases as well and are gone through faster.
+/// A random valid sheet of up to so many nodes; most are small, since small ones meet the odd cases as well and are
+/// gone through faster.
 pub fn random(seed: u64, most: usize) -> Vec<Node> {
     let mut rng = Rng::new(seed);
     let most = most.clamp(1, MAX_NODES);

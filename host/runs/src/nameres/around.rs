@@ -1,5 +1,5 @@
-//! What docs/STORE.md gives as a rule and not as a table, for a module that was read: the Withs around an expression, and the scope that
-//! holds a name.
+//! What docs/STORE.md gives as a rule and not as a table, for a module that was read: the Withs around an expression,
+//! and the scope that holds a name.
 
 use crate::store::module::{Module, Scoped};
 

@@ -10,7 +10,8 @@ use book::{locality, Held};
 use canon::{Facts, ScopeKind};
 use sheet::Node;
 
-/// What is right for a store: all that the Rust says with the texts as they now read, and how many bytes are in use and spent.
+/// What is right for a store: all that the Rust says with the texts as they now read, and how many bytes are in use and
+/// spent.
 pub struct Right {
     pub facts: Facts,
     texts: u32,
@@ -24,8 +25,8 @@ impl Right {
         Right { facts, texts, spent: 0 }
     }
 
-    /// What the book holds after a change that was accepted: `placed` is the new text where it differed from the old. The module but for
-    /// its texts, and the scopes, remain as loaded.
+    /// What the book holds after a change that was accepted: `placed` is the new text where it differed from the old.
+    /// The module but for its texts, and the scopes, remain as loaded.
     pub fn change(&mut self, held: Held, placed: Option<&[u8]>) {
         for (name, text) in self.facts.module.names.iter_mut().zip(held.name_texts) {
             name.text = text;

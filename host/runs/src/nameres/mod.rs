@@ -1,6 +1,7 @@
 //! Names: what is resolved, and what the Rust's own `ModuleScopes::new` and `compute_name_resolution` say of it.
 //!
-//! - `points`, `sheets`: what is resolved beside the sheets of `lower`: small ones for the rules of scopes and answers, and large ones.
+//! - `points`, `sheets`: what is resolved beside the sheets of `lower`: small ones for the rules of scopes and answers,
+//!   and large ones.
 //! - `expected`: what the Rust says, as a store would hold it.
 //! - `around`: what docs/STORE.md has as a rule and not as a table.
 

@@ -65,7 +65,8 @@ const POINTS: &[(&str, &str)] = &[
     ),
 ];
 
-/// The points, a sheet that uses every builtin and texts that are nearly one, and one whose texts are longer than any new text.
+/// The points, a sheet that uses every builtin and texts that are nearly one, and one whose texts are longer than any
+/// new text.
 pub fn points() -> Result<Vec<Named>, String> {
     let points = POINTS.iter().copied().map(point);
     points.chain([Ok(builtins()), Ok(long_texts())]).collect()

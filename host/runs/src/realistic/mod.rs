@@ -1,6 +1,6 @@
-//! Sheets like the files that people write, where the random ones are like nothing: a NixOS module, with a pattern of arguments, a `with`,
-//! a let of fifty names, options, and settings of all sorts under shared paths. The texts are drawn from short lists; pointers are those of
-//! a text. The same seed gives the same sheet on every machine.
+//! Sheets like the files that people write, where the random ones are like nothing: a NixOS module, with a pattern of
+//! arguments, a `with`, a let of fifty names, options, and settings of all sorts under shared paths. The texts are
+//! drawn from short lists; pointers are those of a text. The same seed gives the same sheet on every machine.
 //!
 //! - `nix`: trees for the forms of the language; `sections`: what stands in the module.
 

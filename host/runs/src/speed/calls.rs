@@ -1,5 +1,5 @@
-//! Microseconds for one asking and for one change of a text, the check of the store included, beside the Rust, which has no changes and
-//! works everything out again.
+//! Microseconds for one asking and for one change of a text, the check of the store included, beside the Rust, which
+//! has no changes and works everything out again.
 
 use super::{cells, median, micros, rust, time, Pair, Row, FAMILIES, ROUNDS, SHEETS};
 use crate::calls::changes::{text_of, Target};
@@ -120,7 +120,8 @@ fn many(progress: &Progress, name: &str, (what, choice): &Choice, sheets: &[Vec<
     Ok(())
 }
 
-/// Prints a row that some sheets share, about the name that each uses most, or the first Reference where there are no names.
+/// Prints a row that some sheets share, about the name that each uses most, or the first Reference where there are no
+/// names.
 fn shared(progress: &Progress, row: &Row) -> Result<(), String> {
     let mut lent = Lent::new();
     let (mut whats, mut all) = (Vec::new(), Vec::new());

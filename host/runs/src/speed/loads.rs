@@ -1,5 +1,5 @@
-//! Microseconds for a whole load from a sheet's bytes, by the compiled code and by the Rust, which reads the bytes with the oracle's
-//! checker. Dropping what the Rust made is outside the clock.
+//! Microseconds for a whole load from a sheet's bytes, by the compiled code and by the Rust, which reads the bytes with
+//! the oracle's checker. Dropping what the Rust made is outside the clock.
 
 use super::{cells, median, micros, rust, time, Pair, Row, FAMILIES, ROUNDS, SHEETS};
 use crate::exported::{self, REPLY};
@@ -36,7 +36,8 @@ pub fn rows() -> usize {
     FAMILIES.len() * SIZES.len() + SHAPES.len()
 }
 
-/// Prints a table of sheets of three sizes with the growth between them, and of the large shapes; the ratios at the largest size.
+/// Prints a table of sheets of three sizes with the growth between them, and of the large shapes; the ratios at the
+/// largest size.
 pub fn run(progress: &Progress) -> Result<String, String> {
     progress.tell("| Sheets | Nodes | Bytes | Load | Rust | Load to Rust |");
     progress.tell("|---|---|---|---|---|---|");

@@ -1,5 +1,5 @@
-//! The clock: a load beside the Rust from the same bytes, askings and changes beside the Rust's work after an edit, and the check of a
-//! store beside a plain sum over the same bytes.
+//! The clock: a load beside the Rust from the same bytes, askings and changes beside the Rust's work after an edit, and
+//! the check of a store beside a plain sum over the same bytes.
 
 mod calls;
 mod loads;

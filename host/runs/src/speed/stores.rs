@@ -1,5 +1,5 @@
-//! Nanoseconds for each byte that the check of a store goes through, as an asking that gets no further shows it, beside a plain sum over
-//! the same bytes.
+//! Nanoseconds for each byte that the check of a store goes through, as an asking that gets no further shows it, beside
+//! a plain sum over the same bytes.
 
 use crate::exported;
 use crate::progress::{grouped, Progress};

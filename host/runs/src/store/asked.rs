@@ -1,5 +1,5 @@
-//! What a call on any store comes to, from docs/STORE.md and the order of refusals: for an asking all that is told, for a change whether
-//! it is accepted.
+//! What a call on any store comes to, from docs/STORE.md and the order of refusals: for an asking all that is told, for
+//! a change whether it is accepted.
 
 use super::layout::{self, get, header, Table, NONE};
 use super::sound;

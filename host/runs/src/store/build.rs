@@ -15,7 +15,8 @@ pub struct Texts {
 }
 
 impl Texts {
-    /// None yet. Texts of so many bytes in all, with their lengths, are still to come, so that some may lie there twice.
+    /// None yet. Texts of so many bytes in all, with their lengths, are still to come, so that some may lie there
+    /// twice.
     pub fn new(to_come: usize) -> Self {
         Texts { bytes: Vec::new(), numbers: HashMap::new(), spare: layout::TEXTS_UNSPENT - to_come }
     }
@@ -51,7 +52,8 @@ impl Texts {
     }
 }
 
-/// Writes a module into a store that may hold anything; how many bytes of texts it takes. Words without a meaning are drawn.
+/// Writes a module into a store that may hold anything; how many bytes of texts it takes. Words without a meaning are
+/// drawn.
 pub fn build(store: &mut [u8], module: &Module, texts: Texts, rng: &mut Rng) -> u32 {
     let mut build = Build { store, rng, texts };
     build.exprs(module);

@@ -1,4 +1,5 @@
-//! How often each sort and tag was in the modules of a run, and how often each table was at its limit: so that a run says what it saw.
+//! How often each sort and tag was in the modules of a run, and how often each table was at its limit: so that a run
+//! says what it saw.
 
 use super::layout::{self, get, header};
 use super::sites::elements;

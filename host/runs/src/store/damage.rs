@@ -1,5 +1,5 @@
-//! Damage to a sound store: a few words changed, or the store cut. Where it is plain from the page what must come of it, the damage says
-//! so; the rest is left to the two checks.
+//! Damage to a sound store: a few words changed, or the store cut. Where it is plain from the page what must come of
+//! it, the damage says so; the rest is left to the two checks.
 
 use super::layout::{self, get, header, put};
 use super::sites::{sites, Lists, Rows, Site, Sites};
@@ -350,7 +350,8 @@ impl<'s> Damager<'s> {
         Some((vec![(lists.rows.at, word)], Must::Break))
     }
 
-    /// A scope of definitions that becomes one for a With, whose list is not read any more; the names in it are in use all the same.
+    /// A scope of definitions that becomes one for a With, whose list is not read any more; the names in it are in use
+    /// all the same.
     fn with_list(&self, rng: &mut Rng) -> Drawn {
         let (exprs, names) = (get(self.store, header::EXPRS), get(self.store, header::NAMES));
         let scopes = get(self.store, header::SCOPES) as usize;

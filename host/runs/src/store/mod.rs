@@ -2,7 +2,8 @@
 //!
 //! - `layout`: the page's offsets.
 //! - `module`: what a store holds, as plain values; `page`: the reader; `encode`, `build`: the builder.
-//! - `sound`: the check of 21, 22 and 23; `asked`: what a call on any store comes to; `resolve`: what a Reference means.
+//! - `sound`: the check of 21, 22 and 23; `asked`: what a call on any store comes to; `resolve`: what a Reference
+//!   means.
 //! - `model`: random modules.
 //! - `sites`, `damage`: which words may be what, and changes to them.
 //! - `same`: where two modules differ.

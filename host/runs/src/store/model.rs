@@ -14,7 +14,8 @@ pub struct Size {
     pub diagnostics: usize,
     pub lost: usize,
     pub scopes: usize,
-    /// Names in the order of entering, and kept references: exactly so many where there is something to enter or to keep.
+    /// Names in the order of entering, and kept references: exactly so many where there is something to enter or to
+    /// keep.
     pub entered: usize,
     pub references: usize,
     /// Bytes of texts in use, at most.
@@ -86,7 +87,8 @@ impl Size {
     }
 }
 
-/// The texts that a module draws from: short ones, the empty one, and at times one that takes all the room that is left.
+/// The texts that a module draws from: short ones, the empty one, and at times one that takes all the room that is
+/// left.
 pub fn texts(rng: &mut Rng, size: &Size) -> Vec<Vec<u8>> {
     let mut texts = vec![Vec::new()];
     let mut left = size.texts;

@@ -1,5 +1,5 @@
-//! A reader of stores, written from docs/STORE.md alone: from bytes to a module. It follows the page's tables row by row and has an error
-//! for every number that they do not list.
+//! A reader of stores, written from docs/STORE.md alone: from bytes to a module. It follows the page's tables row by
+//! row and has an error for every number that they do not list.
 
 use super::layout::{self, header, Table};
 use super::module::*;
@@ -92,7 +92,8 @@ impl<'a> Page<'a> {
         at_most(self.word(at)?, table.limit, "count")
     }
 
-    /// The lists of so many rows: each goes to where the next begins, and the row after the last says how many elements are in use.
+    /// The lists of so many rows: each goes to where the next begins, and the row after the last says how many elements
+    /// are in use.
     fn lists(&self, rows: Table, count: u32, elements: Table) -> Read<Vec<Rows>> {
         let mut lists = Vec::new();
         let mut begin = self.field(rows, 0, 0)?;

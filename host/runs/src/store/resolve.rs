@@ -1,5 +1,5 @@
-//! What a Reference means, by the rule of docs/RULES.md over the scopes of a module that was read: for any sound store, also one that no
-//! load makes.
+//! What a Reference means, by the rule of docs/RULES.md over the scopes of a module that was read: for any sound store,
+//! also one that no load makes.
 
 use super::module::{Answer, Expr, Module, Scoped};
 use generate::names::BUILTINS;

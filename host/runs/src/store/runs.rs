@@ -1,5 +1,5 @@
-//! Random modules written into a store and read back; then damaged stores, judged by the compiled check, as a call shows it, and by the
-//! one from the page. A refused call leaves every byte.
+//! Random modules written into a store and read back; then damaged stores, judged by the compiled check, as a call
+//! shows it, and by the one from the page. A refused call leaves every byte.
 
 use super::build::{build, Texts};
 use super::coverage::Coverage;
@@ -56,7 +56,8 @@ pub fn filled<T>(store: &mut [u8], size: &Size, rng: &mut Rng, look: impl FnOnce
 }
 
 impl Run {
-    /// So many stores, each by its number. Every one is soiled before anything else, so that it is the same in any store that is lent.
+    /// So many stores, each by its number. Every one is soiled before anything else, so that it is the same in any
+    /// store that is lent.
     fn family(&mut self, threads: usize, family: &str, count: u64, store: impl Fn(&mut Run, &mut Lent, u64) + Sync) {
         let progress = Progress::new(format!("stores, {family}"), count);
         let parts = split(threads, count, EACH, Lent::new, |lent, turns| {

@@ -154,8 +154,8 @@ impl Sites {
         }
     }
 
-    /// Fields that stand one after the other in the row, or in the list, of the expression e; the kinds are those of a child, a name, a
-    /// text and an operator, and the groups begin with the one that is given.
+    /// Fields that stand one after the other in the row, or in the list, of the expression e; the kinds are those of a
+    /// child, a name, a text and an operator, and the groups begin with the one that is given.
     fn fields(&mut self, at: usize, fields: &[Field], (e, names): (usize, usize), kinds: [&'static str; 4], group: usize) {
         for (i, field) in fields.iter().enumerate() {
             let at = at + 4 * i;

@@ -1,5 +1,5 @@
-//! Which of 0, 21, 22 and 23 a store is, for any bytes at all, from the tables of docs/STORE.md. It shares nothing with the reader but
-//! the offsets, and is as plain as the page: one line of a table here for one line there.
+//! Which of 0, 21, 22 and 23 a store is, for any bytes at all, from the tables of docs/STORE.md. It shares nothing with
+//! the reader but the offsets, and is as plain as the page: one line of a table here for one line there.
 
 use super::layout::{self, header, Table};
 
@@ -183,7 +183,8 @@ impl Store<'_> {
         self.word(table.word(row as usize, place))
     }
 
-    /// The word at an offset, in 64 bits so that sums do not wrap. Outside the bytes there is a number above every bound.
+    /// The word at an offset, in 64 bits so that sums do not wrap. Outside the bytes there is a number above every
+    /// bound.
     fn word(&self, at: usize) -> u64 {
         match self.bytes.get(at..at + 4) {
             Some(&[a, b, c, d]) => u64::from(u32::from_le_bytes([a, b, c, d])),

@@ -14,7 +14,8 @@ use trials::Trial;
 
 use crate::refsheet;
 
-/// The fixed sheets, then one for each of `count` seeds from `seed` on. The counts, or the first difference with the counts until then.
+/// The fixed sheets, then one for each of `count` seeds from `seed` on. The counts, or the first difference with the
+/// counts until then.
 pub fn against(program: &str, seed: u64, count: u64) -> Result<String, String> {
     let program = std::fs::canonicalize(program).map_err(|error| format!("{program}: {error}"))?;
     let program = program.to_string_lossy();
@@ -35,8 +36,8 @@ pub fn against(program: &str, seed: u64, count: u64) -> Result<String, String> {
     Ok(counts.to_string())
 }
 
-/// One run of the program, which must print what refsheet prints and must not be ended by a signal: the difference, if there is one. Fails
-/// where the program can't be run at all.
+/// One run of the program, which must print what refsheet prints and must not be ended by a signal: the difference, if
+/// there is one. Fails where the program can't be run at all.
 fn hold(program: &str, trial: &Trial, counts: &mut Counts) -> Result<Option<String>, String> {
     let wanted = refsheet::output(&trial.sheet);
     let Run { status, printed } = program::run(program, &trial.sheet)?;

@@ -1,4 +1,5 @@
-//! The sheets that a program is tried with, none of them longer than refsheet reads but those that must be refused for it.
+//! The sheets that a program is tried with, none of them longer than refsheet reads but those that must be refused for
+//! it.
 
 use generate::{Preset, Rng};
 
@@ -42,8 +43,8 @@ pub fn random(seed: u64) -> Trial {
     }
 }
 
-/// Told as the oracle's own commands make it, where one does. The sheets of the families that are left out are all too long; their shapes
-/// come as large as they may be.
+/// Told as the oracle's own commands make it, where one does. The sheets of the families that are left out are all too
+/// long; their shapes come as large as they may be.
 fn drawn(rng: &mut Rng) -> Trial {
     let families = [
         (20, Preset::Tiny),

@@ -1,7 +1,8 @@
 //! A fixed list of sheets and calls with what is said of each, for a program that is tested without the oracle at hand.
 //!
 //! - `list`: what is in the list, in its order.
-//! - `named`: examples, traps, lines of the request and limits; `points`: those of docs/DECISIONS.md; `calls`: calls with their refusals.
+//! - `named`: examples, traps, lines of the request and limits; `points`: those of docs/DECISIONS.md; `calls`: calls
+//!   with their refusals.
 //! - `random`: random sheets and scripts, and damaged sheets for every cause of a refusal.
 //! - `write`: the two files, with the outcomes by the Rust, which the second reading must share.
 

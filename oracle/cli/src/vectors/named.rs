@@ -1,4 +1,5 @@
-//! What documents name: the marked and unmarked examples of docs/RULES.md, its traps and limits, and lines A to E of the request.
+//! What documents name: the marked and unmarked examples of docs/RULES.md, its traps and limits, and lines A to E of
+//! the request.
 
 use book::Call;
 

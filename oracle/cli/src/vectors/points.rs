@@ -1,5 +1,5 @@
-//! The points D1 to D33 of docs/DECISIONS.md, each with the inputs that show it. What only a source map or a scope's number would show
-//! is here for its counts and answers.
+//! The points D1 to D33 of docs/DECISIONS.md, each with the inputs that show it. What only a source map or a scope's
+//! number would show is here for its counts and answers.
 
 use super::calls::{ask_name, ask_reference, change_name, change_reference};
 use super::named::parens;
@@ -83,7 +83,8 @@ pub fn trees() -> Result<Vec<Vector>, String> {
     Ok(vectors)
 }
 
-/// The sheet of `x: x` with some of its lines replaced, by their numbers: 0 is `nodes=`, and node n has the six from 6n + 1 on.
+/// The sheet of `x: x` with some of its lines replaced, by their numbers: 0 is `nodes=`, and node n has the six from 6n
+/// + 1 on.
 fn edited(title: &str, edits: &[(usize, &str)]) -> Result<Vector, String> {
     let whole = Vector::of_tree(title, r#"21(11(28(18"x"),18"x"))"#)?;
     let mut lines: Vec<&[u8]> = whole.sheet.split_inclusive(|&byte| byte == b'\n').collect();

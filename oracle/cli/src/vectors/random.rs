@@ -1,4 +1,5 @@
-//! What chance gives: valid sheets of the small families, some with a script, and damaged ones for every cause of a refusal.
+//! What chance gives: valid sheets of the small families, some with a script, and damaged ones for every cause of a
+//! refusal.
 
 use std::collections::BTreeMap;
 
@@ -58,7 +59,8 @@ pub fn damaged() -> Result<Vec<Vector>, String> {
     Ok(found.into_iter().flat_map(titled).collect())
 }
 
-/// For every cause but that of refusal 1, which is longer than a list of vectors should be, so many sheets with their seeds.
+/// For every cause but that of refusal 1, which is longer than a list of vectors should be, so many sheets with their
+/// seeds.
 fn found_by_cause() -> Result<Found, String> {
     let causes: Vec<Cause> = Cause::all().into_iter().filter(|&cause| cause != Cause::TooLong).collect();
     let mut found: Found = causes.iter().map(|&cause| (cause, Vec::new())).collect();

@@ -11,8 +11,8 @@
 //! TEXT                of a change alone: its bytes as they are, then a byte 10
 //! ```
 //!
-//! What it must print for each vector: the title, what refsheet prints for the sheet, the outcome of each call, and where there are calls
-//! what refsheet would print of all that holds after them.
+//! What it must print for each vector: the title, what refsheet prints for the sheet, the outcome of each call, and
+//! where there are calls what refsheet would print of all that holds after them.
 
 use std::fmt::Write;
 

@@ -1,11 +1,11 @@
-//! The places of docs/RULES.md once more, written for the tests by themselves, so that neither the generator nor the judge is asked about
-//! its own mistakes.
+//! The places of docs/RULES.md once more, written for the tests by themselves, so that neither the generator nor the
+//! judge is asked about its own mistakes.
 #![allow(dead_code)]
 
 use generate::tree::Tree;
 
-/// The kids of each kind: a letter for a counted place, and after a star the letter of a list's items. E expression, A attribute, N entry,
-/// L part, R parameter, T pattern entry, P path, F from, B bind, I ident.
+/// The kids of each kind: a letter for a counted place, and after a star the letter of a list's items. E expression, A
+/// attribute, N entry, L part, R parameter, T pattern entry, P path, F from, B bind, I ident.
 pub const KIDS: [(u8, &str); 33] = [
     (1, "EE"),
     (2, "EEE"),

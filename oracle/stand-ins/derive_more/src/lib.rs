@@ -1,8 +1,9 @@
 //! Stands in for derive_more's `From`, for enums without generics whose variants are units or have one unnamed field.
 //!
-//! As in the real one (from 1.0 on): a variant `V(T)` gives `From<T>`; `#[from(A, B)]` on it gives `From<A>` and `From<B>` through
-//! `T`'s own `From`; as soon as one variant has such an attribute, those without give none; a unit gives none; and an attribute
-//! `#[from(..)]` on the enum itself is let through and has no effect. Anything else is an error at compile time.
+//! As in the real one (from 1.0 on): a variant `V(T)` gives `From<T>`; `#[from(A, B)]` on it gives `From<A>` and
+//! `From<B>` through `T`'s own `From`; as soon as one variant has such an attribute, those without give none; a unit
+//! gives none; and an attribute `#[from(..)]` on the enum itself is let through and has no effect. Anything else is an
+//! error at compile time.
 
 use proc_macro::{Delimiter, Group, TokenStream, TokenTree};
 

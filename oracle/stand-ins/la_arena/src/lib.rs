@@ -1,7 +1,7 @@
 //! Stands in for la_arena: numbered lists, and lists kept beside them.
 //!
-//! As the real one it numbers from 0 in the order of allocation and never takes a number back. It leaves out all that lang_ast does not
-//! call, and its `Debug` forms are plainer.
+//! As the real one it numbers from 0 in the order of allocation and never takes a number back. It leaves out all that
+//! lang_ast does not call, and its `Debug` forms are plainer.
 
 mod map;
 

@@ -1,8 +1,9 @@
-//! Stands in for lang_ty, the crate of types beside lang_ast: the primitive types that narrowing names, and `with_stack`.
+//! Stands in for lang_ty, the crate of types beside lang_ast: the primitive types that narrowing names, and
+//! `with_stack`.
 //!
-//! Different on purpose: the real `with_stack` gives the call more stack when little is left. Here it just calls, and whoever runs
-//! lang_ast on a deep tree gives the thread a big stack beforehand. It also counts its calls, so that a prediction of how much a walk
-//! costs can be held against the walk.
+//! Different on purpose: the real `with_stack` gives the call more stack when little is left. Here it just calls, and
+//! whoever runs lang_ast on a deep tree gives the thread a big stack beforehand. It also counts its calls, so that a
+//! prediction of how much a walk costs can be held against the walk.
 
 #[derive(Debug, Clone, Copy, PartialEq, Eq, Hash)]
 pub enum PrimitiveTy {

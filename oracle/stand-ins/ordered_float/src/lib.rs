@@ -1,6 +1,7 @@
 //! Stands in for ordered_float: a float with an equality that is an equivalence.
 //!
-//! As in the real one a NaN equals a NaN and 0.0 equals -0.0; a sheet has neither NaN nor -0.0. Order and arithmetic are left out.
+//! As in the real one a NaN equals a NaN and 0.0 equals -0.0; a sheet has neither NaN nor -0.0. Order and arithmetic
+//! are left out.
 
 #[derive(Debug, Clone, Copy)]
 pub struct OrderedFloat<T>(pub T);

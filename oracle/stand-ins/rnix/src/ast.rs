@@ -252,7 +252,8 @@ impl UnaryOp {
 }
 
 impl Root {
-    /// The tree of a sheet's nodes, which must be those of an accepted sheet. Where there is no Root at 0 it is an empty tree.
+    /// The tree of a sheet's nodes, which must be those of an accepted sheet. Where there is no Root at 0 it is an
+    /// empty tree.
     pub fn of_nodes(nodes: &[Node]) -> Root {
         SyntaxNode::new_root(nodes.into()).and_then(Root::cast).unwrap_or_else(Root::empty)
     }

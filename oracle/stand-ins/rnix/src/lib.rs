@@ -1,7 +1,8 @@
 //! Stands in for rnix: the typed syntax tree of Nix, over a sheet's nodes.
 //!
-//! Different on purpose: parsing is outside, so `Root::parse` gives an empty tree whatever the text, and a tree is made of a sheet's
-//! nodes by `Root::of_nodes`. Every accessor goes by the place that docs/RULES.md gives the kid; see `ast`.
+//! Different on purpose: parsing is outside, so `Root::parse` gives an empty tree whatever the text, and a tree is made
+//! of a sheet's nodes by `Root::of_nodes`. Every accessor goes by the place that docs/RULES.md gives the kid; see
+//! `ast`.
 
 pub mod ast;
 

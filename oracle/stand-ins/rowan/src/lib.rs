@@ -1,8 +1,8 @@
 //! Stands in for rowan: a syntax tree, of which the nodes are those of a sheet.
 //!
-//! Different on purpose: a node's kind is the sheet's number, its children are reached by the place that they have in the sheet's list
-//! of kids and not by their kind, and the only tokens are those that a typed accessor asks for. The sheet has no comments, so a walk
-//! with tokens meets nodes alone. A byte of a text is the character of that number.
+//! Different on purpose: a node's kind is the sheet's number, its children are reached by the place that they have in
+//! the sheet's list of kids and not by their kind, and the only tokens are those that a typed accessor asks for. The
+//! sheet has no comments, so a walk with tokens meets nodes alone. A byte of a text is the character of that number.
 
 pub mod ast;
 mod walk;
@@ -103,7 +103,8 @@ impl<L: Language> SyntaxNode<L> {
         &self.node().text
     }
 
-    /// The node's own text. In the real one the texts of all tokens below it; of the kinds whose text lang_ast reads, the sheet has that.
+    /// The node's own text. In the real one the texts of all tokens below it; of the kinds whose text lang_ast reads,
+    /// the sheet has that.
     pub fn text(&self) -> String {
         self.bytes().iter().copied().map(char::from).collect()
     }
@@ -159,7 +160,8 @@ impl<L: Language> SyntaxToken<L> {
         &self.text
     }
 
-    /// The range of the token's node, the sheet having none for tokens. Only asked of comments, which a sheet doesn't have.
+    /// The range of the token's node, the sheet having none for tokens. Only asked of comments, which a sheet doesn't
+    /// have.
     pub fn text_range(&self) -> TextRange {
         self.parent.text_range()
     }

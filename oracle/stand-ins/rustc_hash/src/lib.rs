@@ -1,9 +1,9 @@
 //! Stands in for rustc_hash: the hash map and hash set that lang_ast uses.
 //!
-//! Different on purpose: `FxHashMap` is a type of its own that also keeps a log of every `insert`, so that one can see from outside
-//! which names a scope was given and in what order, the hidden ones too. What goes in through `entry` is not logged, since such a value
-//! grows in place. Two maps are equal when they hold the same, whatever their logs. The hash function is std's; lang_ast never looks
-//! at the order of a map.
+//! Different on purpose: `FxHashMap` is a type of its own that also keeps a log of every `insert`, so that one can see
+//! from outside which names a scope was given and in what order, the hidden ones too. What goes in through `entry` is
+//! not logged, since such a value grows in place. Two maps are equal when they hold the same, whatever their logs. The
+//! hash function is std's; lang_ast never looks at the order of a map.
 
 use std::{
     collections::{

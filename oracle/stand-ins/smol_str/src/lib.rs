@@ -1,6 +1,7 @@
 //! Stands in for smol_str: a text that is cheap to clone and is compared as `str` is.
 //!
-//! Different on purpose: every text is shared, while the real one keeps short texts inside itself. Nothing that lang_ast does shows it.
+//! Different on purpose: every text is shared, while the real one keeps short texts inside itself. Nothing that
+//! lang_ast does shows it.
 
 use std::{fmt, ops::Deref, sync::Arc};
 

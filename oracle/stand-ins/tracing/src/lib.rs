@@ -1,6 +1,7 @@
 //! Stands in for tracing: `#[instrument]`, and spans that nobody listens to.
 //!
-//! Different on purpose: nothing is recorded and a span's fields are not worked out, as with the real one when nobody listens.
+//! Different on purpose: nothing is recorded and a span's fields are not worked out, as with the real one when nobody
+//! listens.
 
 pub use tracing_attributes::instrument;
 
