@@ -7,7 +7,7 @@ use lib.ListN.{length}
 use borrow.Author.Tests.{le-ltb, lt-ltb, le-leb, lt-leb}
 use Rattle.spec.specs.Basics.{ExprId}
 use Rattle.spec.specs.Calls.{fit, askReference, askName, refusal, answered, listed, replyBytes, withList, check, replyOf, inBuffer, giveAnswer, answerCall}
-use Rattle.spec.specs.Kept.{keptAnswer, keptReferences}
+use Rattle.spec.specs.Kept.{keptAnswer, keptReferences, keptMoved}
 use Rattle.layout.specs.Rows.{setAll}
 use Rattle.layout.specs.States.{exprsOf, namesOf}
 use Rattle.layout.specs.Keeps.{scopesIn, keptIn}
@@ -47,7 +47,7 @@ module _ (s b p : List ℕ) (n : ℕ) (fits : conditionOf s ≡ fit) (long : rep
 
   module _ (there : n < k) (m : MaybeAnswer) (says : maybeWith m (withsAt (scopesIn s) n) ≡ keptAnswer (keptIn s) n) where
     from-kept : outcomeIn s (askReference n (length b) (length p))
-        ≡ giveAnswer (keptIn s .lowered) (keptAnswer (keptIn s)) (keptReferences (keptIn s)) (keptIn s .spent) n (length b) (maybeWith m (withsAt (scopesIn s) n))
+        ≡ giveAnswer (keptIn s .lowered) (keptAnswer (keptIn s)) (keptReferences (keptIn s)) (keptIn s .spent) (keptMoved (keptIn s)) n (length b) (maybeWith m (withsAt (scopesIn s) n))
     unfolding answerCall check
     from-kept = own-reference ∙ rw (lt-leb (length (keptIn s .lowered .exprs)) n (omega (arith, there, counted, exprs-many s)), says)
 
@@ -57,7 +57,7 @@ module _ (s b p : List ℕ) (n : ℕ) (fits : conditionOf s ≡ fit) (long : rep
 
     module _ (a : Answer) (q : m ≡ Is a) (count : ℕ) (b′ : List ℕ) (lists : Lists (withList (answerWith a (withsAt (scopesIn s) n))) b count b′) where
       from-answer : outcomeIn s (askReference n (length b) (length p))
-          ≡ inBuffer (keptIn s .lowered) (keptAnswer (keptIn s)) (keptReferences (keptIn s)) (keptIn s .spent) (length b) (withList (answerWith a (withsAt (scopesIn s) n))) (answered (answerWith a (withsAt (scopesIn s) n)))
+          ≡ inBuffer (keptIn s .lowered) (keptAnswer (keptIn s)) (keptReferences (keptIn s)) (keptIn s .spent) (keptMoved (keptIn s)) (length b) (withList (answerWith a (withsAt (scopesIn s) n))) (answered (answerWith a (withsAt (scopesIn s) n)))
       unfolding giveAnswer maybeWith
       from-answer = from-kept ∙ rw q
 
@@ -89,7 +89,7 @@ module _ (s b p : List ℕ) (n : ℕ) (fits : conditionOf s ≡ fit) (long : rep
 
   module _ (there : n < k) (count : ℕ) (b′ : List ℕ) (lists : Lists (keptReferences (keptIn s) n) b count b′) where
     from-references : outcomeIn s (askName n (length b) (length p))
-        ≡ inBuffer (keptIn s .lowered) (keptAnswer (keptIn s)) (keptReferences (keptIn s)) (keptIn s .spent) (length b) (keptReferences (keptIn s) n) (listed (keptReferences (keptIn s) n))
+        ≡ inBuffer (keptIn s .lowered) (keptAnswer (keptIn s)) (keptReferences (keptIn s)) (keptIn s .spent) (keptMoved (keptIn s)) (length b) (keptReferences (keptIn s) n) (listed (keptReferences (keptIn s) n))
     unfolding answerCall check
     from-references = own-name ∙ rw (lt-leb (length (keptIn s .lowered .names)) n (omega (arith, there, counted, names-counted s)))
 

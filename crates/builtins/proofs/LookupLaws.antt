@@ -6,40 +6,35 @@ use mathlib.Core.Option.{Option, none, some}
 use Prim.Native.Nat.{ℕ, _+_, _≤_, _<_}
 use native.Mathlib.Numerals.{add-one}
 use native.Mathlib.Omega.{arith}
-use lib.ListN.{length, take, drop, getD, drop-of-length-le}
+use lib.ListN.{length, drop, getD, drop-of-length-le}
 use lib.Seq.{drop-cons}
+use Rattle.words.specs.Runs.{run}
 use Rattle.words.specs.Equality.{equalb}
-use Rattle.words.proofs.EqualityLaws.{equalb-true, equalb-refl, equalb-other}
+use Rattle.words.proofs.EqualityLaws.{equalb-other}
 use Rattle.spec.specs.Basics.{Text}
 use Rattle.spec.specs.Answer.{builtins, indexFrom}
 use Rattle.builtins.specs.declared.lookup.MaybeBuiltin.the-variants.{Builtin, Absent}
 use Rattle.builtins.specs.Table.{rows, lengths, firsts, nameAt}
-use Rattle.builtins.specs.Lookup.{builtinOf, Begins, Looked}
+use Rattle.builtins.specs.Lookup.{builtinOf, Looked}
 use Rattle.builtins.proofs.TableLaws.{count, name-at, row-holds, name-length, name-begins}
 
 -- ---- one name
+pub first-none : (t : Text) → length t ≡ 0 → 0 ≡ getD t 0 0
+first-none [] h = refl
+first-none (b ∷ bs) h = absurd (omega arith)
+
 pub fits-row : (i n : ℕ) (row : List ℕ) → i < 22 → n ≡ getD lengths i 0 → row ≡ getD rows i [] → n ≤ length row
 fits-row i n row h e q = rw (e, q) (row-holds i h)
 
-pub other-length : (i k n b : ℕ) (t : Text) → i < 22 → k ≡ getD lengths i 0 → Begins n b t → (k ≡ n → ⊥) → false ≡ equalb (nameAt i) t
-other-length i k n b t h e f d = sym (equalb-other (nameAt i) t (λ q. d (e ∙ sym (name-length i h) ∙ ap length q ∙ sym (f .size))))
+pub other-length : (i k : ℕ) (t : Text) → i < 22 → k ≡ getD lengths i 0 → (k ≡ length t → ⊥) → false ≡ equalb (nameAt i) t
+other-length i k t h e d = sym (equalb-other (nameAt i) t (λ q. d (e ∙ sym (name-length i h) ∙ ap length q)))
 
-pub other-first : (i k n b : ℕ) (t : Text) → i < 22 → k ≡ getD firsts i 0 → Begins n b t → (k ≡ b → ⊥) → false ≡ equalb (nameAt i) t
-other-first i k n b t h e f d = sym (equalb-other (nameAt i) t (λ q. d (e ∙ sym (name-begins i h) ∙ ap (λ (s : Text). getD s 0 0) q ∙ sym (f .byte))))
+pub other-first : (i k b : ℕ) (t : Text) → i < 22 → k ≡ getD firsts i 0 → b ≡ getD t 0 0 → (k ≡ b → ⊥) → false ≡ equalb (nameAt i) t
+other-first i k b t h e f d = sym (equalb-other (nameAt i) t (λ q. d (e ∙ sym (name-begins i h) ∙ ap (λ (s : Text). getD s 0 0) q ∙ sym f)))
 
-equalb-sym : (xs ys : List ℕ) → equalb xs ys ≡ equalb ys xs
-equalb-sym xs ys = go (equalb xs ys) refl
-  where
-    go : (b : Bool) → equalb xs ys ≡ b → b ≡ equalb ys xs
-    go true e = rw (equalb-true xs ys e) (sym (equalb-refl ys))
-    go false e = sym (equalb-other ys xs (λ q. differ (rw (← e, q) (equalb-refl xs))))
-      where
-        differ : false ≡ true → ⊥
-        differ z = let n : _≡_ {A = ℕ} 0 1 = cc in omega arith
-
-pub row-compared : (i n : ℕ) (row t : List ℕ) (b : Bool) → n ≡ getD lengths i 0 → row ≡ getD rows i [] → b ≡ equalb t (take n row) → b ≡ equalb (nameAt i) t
-unfolding nameAt
-row-compared i n row t b e q h = h ∙ equalb-sym t (take n row) ∙ rw (e, q)
+pub row-compared : (i n : ℕ) (row t : List ℕ) (b : Bool) → n ≡ getD lengths i 0 → row ≡ getD rows i [] → b ≡ equalb (run row 0 n) t → b ≡ equalb (nameAt i) t
+unfolding nameAt run
+row-compared i n row t b e q h = h ∙ rw (e, q)
 
 -- ---- all of them
 module _ (t : Text) (i : ℕ) (asked : indexFrom 0 t builtins ≡ indexFrom i t (drop i builtins)) where

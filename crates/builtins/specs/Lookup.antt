@@ -2,7 +2,6 @@
 use mathlib.Core.Path.{_≡_}
 use mathlib.Core.Option.{Option, none, some}
 use Prim.Native.Nat.{ℕ, _<_}
-use lib.ListN.{length, getD}
 use Rattle.spec.specs.Basics.{Text}
 use Rattle.spec.specs.Answer.{builtins, indexFrom}
 use Rattle.builtins.specs.declared.lookup.MaybeBuiltin.{MaybeBuiltin}
@@ -11,11 +10,6 @@ use Rattle.builtins.specs.declared.lookup.MaybeBuiltin.the-variants.{Bui
 unfoldable pub builtinOf : MaybeBuiltin → Option ℕ
 builtinOf (Builtin i) = some i
 builtinOf Absent = none
-
--- a text's length and its first byte, 0 where it has none
-pub record Begins (n first : ℕ) (t : Text) : Type 0 where
-  pub size : n ≡ length t
-  pub byte : first ≡ getD t 0 0
 
 -- the answer for a text, and that its number is one of the table
 pub record Looked (r : MaybeBuiltin) (t : Text) : Type 0 where

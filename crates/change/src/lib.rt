@@ -1,16 +1,14 @@
-// Changing a store: a text set, of a Reference or of a name, with what follows from it for all that is kept. A refused
-// change leaves the store as it was.
+// Changing a store: a text set, of a Reference or of a name, with what follows from it for all that is kept; the host is
+// told which answers are others then. A refused change leaves the store as it was, and the buffer.
 //
-// Refusals are checked in the order of the definitions (Calls.antt), and a refused call writes its reply alone.
+// Refusals are checked in the order of the definitions (Calls.antt), and a refused call writes its reply alone: what 34
+// needs is counted by reading.
 ghost use mathlib.Core.Path.{_≡_};
-ghost use mathlib.Core.Bool.{_&&_, not};
 ghost use Prim.Native.Nat.{_+_, _≤_};
 ghost use lib.ListN.{length};
 ghost use lib.Dec.{ltb};
-ghost use Rattle.words.specs.Equality.{equalb};
 ghost use Rattle.spec.specs.Calls.{fit, replyBytes, changeReference, changeName};
 ghost use Rattle.layout.specs.Layout.{roomLimit, Long};
-ghost use Rattle.layout.specs.Texts.{textIn};
 ghost use Rattle.layout.specs.Keeps.{keptIn};
 ghost use Rattle.soundness.specs.Sound.{conditionOf};
 ghost use Rattle.requests.specs.Requests.{Changed};
@@ -20,7 +18,8 @@ use layout::wide;
 use module::ExprId;
 use module::MaybeText;
 use module::NameId;
-use module::TextId;
+use moving::count_moved_by_name;
+use moving::count_moved_by_reference;
 use put_text::put_name_text;
 use put_text::put_reference_text;
 use replies::accept;
@@ -36,22 +35,24 @@ const TEXT_LIMIT: usize = 255;
 
 const ROOM: usize = ROOM_LIMIT as usize;
 
-// Whether what is left of the change room is too little for a text in place of the one that is held. An equal text
-// takes none; it is compared only where the room would not do, since the change compares again.
-fn lacks_room(store: &[u8], held: TextId, text: &[u8]) -> bool
+// Whether what is left of the change room is too little for a text.
+fn lacks_room(store: &[u8], text: &[u8]) -> bool
     requires { ⌜ Long (now store) × (length (now text) ≤ 255) ⌝ }
-    ensures { λ r. ⌜ r ≡ (not (equalb (textIn (now (store .entry)) (held .0)) (now (text .entry))) && ltb roomLimit (keptIn (now (store .entry)) .spent + length (now (text .entry)))) ⌝ }
+    ensures { λ r. ⌜ r ≡ ltb roomLimit (keptIn (now (store .entry)) .spent + length (now (text .entry))) ⌝ }
 {
-    if wide(spent(store)) + text.len() <= ROOM {
-        return false;
-    }
-    !text_is(store, held, text)
+    ROOM < wide(spent(store)) + text.len()
 }
 
-// In a fit store.
-fn set_reference(store: &mut [u8], number: u32, text: &[u8], reply: &mut [u8]) -> u32
+// In a fit store. An equal text changes and moves nothing.
+fn set_reference(
+    store: &mut [u8],
+    number: u32,
+    text: &[u8],
+    moved: &mut [u8],
+    reply: &mut [u8],
+) -> u32
     requires { ⌜ (conditionOf (now store) ≡ fit) × (replyBytes ≤ length (now reply)) ⌝ }
-    ensures { λ r. ⌜ Changed (changeReference number (now (text .entry)) (length (now (reply .entry)))) (now (store .entry)) (now (reply .entry)) r (now (store .exit)) (now (reply .exit)) ⌝ }
+    ensures { λ r. ⌜ Changed (changeReference number (now (text .entry)) (length (now (moved .entry))) (length (now (reply .entry)))) (now (store .entry)) (now (moved .entry)) (now (reply .entry)) r (now (store .exit)) (now (moved .exit)) (now (reply .exit)) ⌝ }
 {
     if expr_count(store) <= number {
         return refuse(reply, 24, number);
@@ -62,28 +63,41 @@ fn set_reference(store: &mut [u8], number: u32, text: &[u8], reply: &mut [u8]) -
     if TEXT_LIMIT < text.len() {
         return refuse(reply, 8, 255);
     }
-    if lacks_room(store, held, text) {
+    if text_is(store, held, text) {
+        return accept(reply, 0);
+    }
+    if lacks_room(store, text) {
         return refuse(reply, 27, 0);
     }
-    put_reference_text(store, ExprId(number), text);
-    accept(reply)
+    let count = count_moved_by_reference(store, ExprId(number), text);
+    if moved.len() < 4 * wide(count) {
+        return refuse(reply, 34, count);
+    }
+    put_reference_text(store, ExprId(number), text, moved);
+    accept(reply, count)
 }
 
 // Sets the text of a Reference.
-pub fn change_reference(store: &mut [u8], number: u32, text: &[u8], reply: &mut [u8]) -> u32
-    ensures { λ r. ⌜ Changed (changeReference number (now (text .entry)) (length (now (reply .entry)))) (now (store .entry)) (now (reply .entry)) r (now (store .exit)) (now (reply .exit)) ⌝ }
+pub fn change_reference(
+    store: &mut [u8],
+    number: u32,
+    text: &[u8],
+    moved: &mut [u8],
+    reply: &mut [u8],
+) -> u32
+    ensures { λ r. ⌜ Changed (changeReference number (now (text .entry)) (length (now (moved .entry))) (length (now (reply .entry)))) (now (store .entry)) (now (moved .entry)) (now (reply .entry)) r (now (store .exit)) (now (moved .exit)) (now (reply .exit)) ⌝ }
 {
     let why = begin(store, reply);
     if why != 0 {
         return why;
     }
-    set_reference(store, number, text, reply)
+    set_reference(store, number, text, moved, reply)
 }
 
-// In a fit store.
-fn set_name(store: &mut [u8], number: u32, text: &[u8], reply: &mut [u8]) -> u32
+// In a fit store. An equal text changes and moves nothing.
+fn set_name(store: &mut [u8], number: u32, text: &[u8], moved: &mut [u8], reply: &mut [u8]) -> u32
     requires { ⌜ (conditionOf (now store) ≡ fit) × (replyBytes ≤ length (now reply)) ⌝ }
-    ensures { λ r. ⌜ Changed (changeName number (now (text .entry)) (length (now (reply .entry)))) (now (store .entry)) (now (reply .entry)) r (now (store .exit)) (now (reply .exit)) ⌝ }
+    ensures { λ r. ⌜ Changed (changeName number (now (text .entry)) (length (now (moved .entry))) (length (now (reply .entry)))) (now (store .entry)) (now (moved .entry)) (now (reply .entry)) r (now (store .exit)) (now (moved .exit)) (now (reply .exit)) ⌝ }
 {
     if name_count(store) <= number {
         return refuse(reply, 24, number);
@@ -92,20 +106,33 @@ fn set_name(store: &mut [u8], number: u32, text: &[u8], reply: &mut [u8]) -> u32
         return refuse(reply, 8, 255);
     }
     let held = name_text(store, NameId(number));
-    if lacks_room(store, held, text) {
+    if text_is(store, held, text) {
+        return accept(reply, 0);
+    }
+    if lacks_room(store, text) {
         return refuse(reply, 27, 0);
     }
-    put_name_text(store, NameId(number), text);
-    accept(reply)
+    let count = count_moved_by_name(store, NameId(number), text);
+    if moved.len() < 4 * wide(count) {
+        return refuse(reply, 34, count);
+    }
+    put_name_text(store, NameId(number), text, count, moved);
+    accept(reply, count)
 }
 
 // Sets the text of a name.
-pub fn change_name(store: &mut [u8], number: u32, text: &[u8], reply: &mut [u8]) -> u32
-    ensures { λ r. ⌜ Changed (changeName number (now (text .entry)) (length (now (reply .entry)))) (now (store .entry)) (now (reply .entry)) r (now (store .exit)) (now (reply .exit)) ⌝ }
+pub fn change_name(
+    store: &mut [u8],
+    number: u32,
+    text: &[u8],
+    moved: &mut [u8],
+    reply: &mut [u8],
+) -> u32
+    ensures { λ r. ⌜ Changed (changeName number (now (text .entry)) (length (now (moved .entry))) (length (now (reply .entry)))) (now (store .entry)) (now (moved .entry)) (now (reply .entry)) r (now (store .exit)) (now (moved .exit)) (now (reply .exit)) ⌝ }
 {
     let why = begin(store, reply);
     if why != 0 {
         return why;
     }
-    set_name(store, number, text, reply)
+    set_name(store, number, text, moved, reply)
 }

@@ -42,12 +42,15 @@ abbrev pub Bytes : Type 0
 Bytes = RefT (List ℕ)
 
 -- The parameters of the calls in their order, as nested pairs that end in `tt`: the sheet, the store and the reply of a
--- load; the store, a number, the buffer or the text, and the reply of the others.
+-- load; the store, a number, the buffer and the reply of an asking; a change has its text before the buffer.
 abbrev pub LoadArgs : Type 0
 LoadArgs = Bytes × (Bytes × (Bytes × Unit {0}))
 
 abbrev pub Args : Type 0
 Args = Bytes × (ℕ × (Bytes × (Bytes × Unit {0})))
+
+abbrev pub ChangeArgs : Type 0
+ChangeArgs = Bytes × (ℕ × (Bytes × (Bytes × (Bytes × Unit {0}))))
 
 -- What each signature says of its call's end: a `&` is as it was passed, a `&mut` has its last bytes.
 abbrev pub LoadEnd : Ended
@@ -60,10 +63,10 @@ abbrev pub AskNameEnd : Ended
 AskNameEnd = endedOf 3 ask_name_kinds.ps ask_name_kinds.r
 
 abbrev pub ChangeReferenceEnd : Ended
-ChangeReferenceEnd = endedOf 3 change_reference_kinds.ps change_reference_kinds.r
+ChangeReferenceEnd = endedOf 4 change_reference_kinds.ps change_reference_kinds.r
 
 abbrev pub ChangeNameEnd : Ended
-ChangeNameEnd = endedOf 3 change_name_kinds.ps change_name_kinds.r
+ChangeNameEnd = endedOf 4 change_name_kinds.ps change_name_kinds.r
 
 -- ---- No call asks anything of its caller: a `requires` would stand here, and `tt` would not prove it.
 pub load-free : (κs : Lfts 3) (a : LoadArgs) → load.Asked κs a
@@ -75,10 +78,10 @@ ask-reference-free κs a = tt
 pub ask-name-free : (κs : Lfts 3) (a : Args) → ask_name.Asked κs a
 ask-name-free κs a = tt
 
-pub change-reference-free : (κs : Lfts 3) (a : Args) → change_reference.Asked κs a
+pub change-reference-free : (κs : Lfts 4) (a : ChangeArgs) → change_reference.Asked κs a
 change-reference-free κs a = tt
 
-pub change-name-free : (κs : Lfts 3) (a : Args) → change_name.Asked κs a
+pub change-name-free : (κs : Lfts 4) (a : ChangeArgs) → change_name.Asked κs a
 change-name-free κs a = tt
 
 -- ---- lists of calls
@@ -91,9 +94,9 @@ pub data Trace : List ℕ → List ℕ → Type 0 where
       → ask_reference.Post κs a r (atExit AskReferenceEnd κs a w) → Trace (atExit AskReferenceEnd κs a w .0 .now) u → Trace (a .0 .now) u
   asked-name : (κs : Lfts 3) (a : Args) (w : Lasts AskNameEnd κs a) (r : ℕ) (u : List ℕ)
       → ask_name.Post κs a r (atExit AskNameEnd κs a w) → Trace (atExit AskNameEnd κs a w .0 .now) u → Trace (a .0 .now) u
-  changed-reference : (κs : Lfts 3) (a : Args) (w : Lasts ChangeReferenceEnd κs a) (r : ℕ) (u : List ℕ)
+  changed-reference : (κs : Lfts 4) (a : ChangeArgs) (w : Lasts ChangeReferenceEnd κs a) (r : ℕ) (u : List ℕ)
       → change_reference.Post κs a r (atExit ChangeReferenceEnd κs a w) → Trace (atExit ChangeReferenceEnd κs a w .0 .now) u → Trace (a .0 .now) u
-  changed-name : (κs : Lfts 3) (a : Args) (w : Lasts ChangeNameEnd κs a) (r : ℕ) (u : List ℕ)
+  changed-name : (κs : Lfts 4) (a : ChangeArgs) (w : Lasts ChangeNameEnd κs a) (r : ℕ) (u : List ℕ)
       → change_name.Post κs a r (atExit ChangeNameEnd κs a w) → Trace (atExit ChangeNameEnd κs a w .0 .now) u → Trace (a .0 .now) u
 
 -- the calls of the definitions: what is lent counts by its length, but for a text
@@ -103,18 +106,18 @@ askingReference a = askReference (a .1 .0) (length (a .1 .1 .0 .now)) (length (a
 abbrev pub askingName : Args → Call
 askingName a = askName (a .1 .0) (length (a .1 .1 .0 .now)) (length (a .1 .1 .1 .0 .now))
 
-abbrev pub changingReference : Args → Call
-changingReference a = changeReference (a .1 .0) (a .1 .1 .0 .now) (length (a .1 .1 .1 .0 .now))
+abbrev pub changingReference : ChangeArgs → Call
+changingReference a = changeReference (a .1 .0) (a .1 .1 .0 .now) (length (a .1 .1 .1 .0 .now)) (length (a .1 .1 .1 .1 .0 .now))
 
-abbrev pub changingName : Args → Call
-changingName a = changeName (a .1 .0) (a .1 .1 .0 .now) (length (a .1 .1 .1 .0 .now))
+abbrev pub changingName : ChangeArgs → Call
+changingName a = changeName (a .1 .0) (a .1 .1 .0 .now) (length (a .1 .1 .1 .0 .now)) (length (a .1 .1 .1 .1 .0 .now))
 
 -- at the turn of an asking, b being the book before it: what was lent, and what it is at exit
 abbrev AskingTurn : Book → Call → Args → ℕ → Args → Type 0
 AskingTurn b c a r z = Asking b c (a .0 .now) (z .0 .now) r (a .1 .1 .0 .now) (a .1 .1 .1 .0 .now) (z .1 .1 .0 .now) (z .1 .1 .1 .0 .now)
 
-abbrev ChangingTurn : Book → Call → Args → ℕ → Args → Type 0
-ChangingTurn b c a r z = Turn b c (a .0 .now) (z .0 .now) r (a .1 .1 .1 .0 .now) (z .1 .1 .1 .0 .now)
+abbrev ChangingTurn : Book → Call → ChangeArgs → ℕ → ChangeArgs → Type 0
+ChangingTurn b c a r z = Turn b c (a .0 .now) (z .0 .now) r (a .1 .1 .1 .0 .now) (a .1 .1 .1 .1 .0 .now) (z .1 .1 .1 .0 .now) (z .1 .1 .1 .1 .0 .now)
 
 -- What holds of every call of a trace, at its turn; b is the book before the first, and what the store keeps after the
 -- last is the book's too.
@@ -150,18 +153,21 @@ module _ (κs : Lfts 3) (a : Args) (r : ℕ) where
       ask-name-turn (a .1 .0) (length (a .1 .1 .0 .now)) (length (a .1 .1 .1 .0 .now)) (a .0 .now) r (a .1 .1 .0 .now) (a .1 .1 .1 .0 .now) (z .1 .1 .0 .now) (z .1 .1 .1 .0 .now)
       (record { number = here .0; buffer = here .1 .0; reply = here .1 .1 })
 
-  abbrev Alters : Call → Args → Type 0
-  Alters c z = Change c (a .0 .now) (z .0 .now) r (a .1 .1 .1 .0 .now) (z .1 .1 .1 .0 .now)
+module _ (κs : Lfts 4) (a : ChangeArgs) (r : ℕ) where
+  abbrev Alters : Call → ChangeArgs → Type 0
+  Alters c z = Change c (a .0 .now) (z .0 .now) r (a .1 .1 .1 .0 .now) (a .1 .1 .1 .1 .0 .now) (z .1 .1 .1 .0 .now) (z .1 .1 .1 .1 .0 .now)
 
   reference-changed : (w : Lasts ChangeReferenceEnd κs a) → change_reference.Post κs a r (atExit ChangeReferenceEnd κs a w) → Ready (a .0 .now) → Alters (changingReference a) (atExit ChangeReferenceEnd κs a w)
   reference-changed w here =
       let z = atExit ChangeReferenceEnd κs a w in
-      changing-turn (changingReference a) (a .0 .now) (z .0 .now) r (a .1 .1 .1 .0 .now) (z .1 .1 .1 .0 .now) (record { number = here .0; reply = here .1 .0; leaves = here .1 .1 })
+      changing-turn (changingReference a) (a .0 .now) (z .0 .now) r (a .1 .1 .1 .0 .now) (a .1 .1 .1 .1 .0 .now) (z .1 .1 .1 .0 .now) (z .1 .1 .1 .1 .0 .now)
+      (record { number = here .0; buffer = here .1 .0; reply = here .1 .1 .0; leaves = here .1 .1 .1 })
 
   name-changed : (w : Lasts ChangeNameEnd κs a) → change_name.Post κs a r (atExit ChangeNameEnd κs a w) → Ready (a .0 .now) → Alters (changingName a) (atExit ChangeNameEnd κs a w)
   name-changed w here =
       let z = atExit ChangeNameEnd κs a w in
-      changing-turn (changingName a) (a .0 .now) (z .0 .now) r (a .1 .1 .1 .0 .now) (z .1 .1 .1 .0 .now) (record { number = here .0; reply = here .1 .0; leaves = here .1 .1 })
+      changing-turn (changingName a) (a .0 .now) (z .0 .now) r (a .1 .1 .1 .0 .now) (a .1 .1 .1 .1 .0 .now) (z .1 .1 .1 .0 .now) (z .1 .1 .1 .1 .0 .now)
+      (record { number = here .0; buffer = here .1 .0; reply = here .1 .1 .0; leaves = here .1 .1 .1 })
 
 -- THEOREM. So it is of every list of calls from a store to go on from, whoever made it, and the book is the one that it
 -- keeps.

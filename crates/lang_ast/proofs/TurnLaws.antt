@@ -14,7 +14,7 @@ use Rattle.spec.specs.Tree.{judge}
 use Rattle.spec.specs.Lower.{lowerModule}
 use Rattle.spec.specs.Answer.{Answer}
 use Rattle.spec.specs.Calls.{Condition, Call, askReference, askName, Outcome, refusal, answered, listed, accepted, isAccepted, oldText, newText, withList, check, replyOf, replyBytes, inBuffer, giveAnswer, answerCall, outcome, loading}
-use Rattle.spec.specs.Kept.{Kept, keptOutcome, keptAnswer, keptReferences}
+use Rattle.spec.specs.Kept.{Kept, keptAnswer, keptReferences, keptMoved, keptOutcome}
 use Rattle.spec.specs.Book.{Book, bookOf, bookOutcome, bookAfter, bookAfterAll}
 use Rattle.spec.specs.Demand as demand
 use Rattle.spec.proofs.change.Incremental.{asBook}
@@ -35,10 +35,10 @@ not-accepted true number place rest h = refl
 not-accepted false number place rest h = h
 
 module _ (store : Condition) (k : Kept) where
-  state-checked : (c : Call) → isAccepted (answerCall (k .lowered) (keptAnswer k) (keptReferences k) (k .spent) c) ≡ false → isAccepted (keptOutcome store k c) ≡ false
+  state-checked : (c : Call) → isAccepted (answerCall (k .lowered) (keptAnswer k) (keptReferences k) (k .spent) (keptMoved k) c) ≡ false → isAccepted (keptOutcome store k c) ≡ false
   unfolding keptOutcome outcome
   state-checked c h =
-      let inner = answerCall (k .lowered) (keptAnswer k) (keptReferences k) (k .spent) c in
+      let inner = answerCall (k .lowered) (keptAnswer k) (keptReferences k) (k .spent) (keptMoved k) c in
       let third = not-accepted (store .unloaded) 23 0 inner h in
       let second = not-accepted (store .unsound) 22 0 (check (store .unloaded) 23 0 inner) third in
       not-accepted (store .short || ltb (replyOf c) replyBytes) 21 0 (check (store .unsound) 22 0 (check (store .unloaded) 23 0 inner)) second
@@ -48,7 +48,7 @@ module _ (store : Condition) (k : Kept) where
   reference-asked n buffer reply =
       state-checked (askReference n buffer reply) (not-accepted (leb (length (k .lowered .exprs)) n) 24 n _ (given (keptAnswer k n)))
     where
-      given : (a : Option Answer) → isAccepted (giveAnswer (k .lowered) (keptAnswer k) (keptReferences k) (k .spent) n buffer a) ≡ false
+      given : (a : Option Answer) → isAccepted (giveAnswer (k .lowered) (keptAnswer k) (keptReferences k) (k .spent) (keptMoved k) n buffer a) ≡ false
       given none = refl
       given (some a) = not-accepted (ltb buffer (4 * length (withList a))) 26 (length (withList a)) (answered a) refl
 
@@ -86,21 +86,28 @@ went s t c here ready =
     let r = demand3.ran (List ℕ) keptIn conditionOf s t ((c, outcomeIn s c) ∷ []) trace ready in
     record { turn = r .follows .0; ready = r .ready; book = r .book }
 
-turned : (s t : List ℕ) (c : Call) (r : ℕ) (p p′ : List ℕ) → Went s c t → r ≡ returned (outcomeIn s c) → p′ ≡ replyAfter (outcomeIn s c) p → Turn (asBook (keptIn s)) c s t r p p′
-turned s t c r p p′ w number reply =
+turned : (s t : List ℕ) (c : Call) (r : ℕ) (q p q′ p′ : List ℕ) → Went s c t → r ≡ returned (outcomeIn s c) → q′ ≡ bufferAfter (outcomeIn s c) q → p′ ≡ replyAfter (outcomeIn s c) p
+    → Turn (asBook (keptIn s)) c s t r q p q′ p′
+turned s t c r q p q′ p′ w number buffer reply =
     let o = w .turn .told in
-    record { number = number ∙ ap returned o; reply = reply ∙ ap (λ (x : Outcome). replyAfter x p) o; keeps = w .turn .keeps; moves = rw o at (w .turn .moves) }
+    record {
+      number = number ∙ ap returned o;
+      buffer = buffer ∙ ap (λ (x : Outcome). bufferAfter x q) o;
+      reply = reply ∙ ap (λ (x : Outcome). replyAfter x p) o;
+      keeps = w .turn .keeps;
+      moves = rw o at (w .turn .moves);
+    }
 
-pub record Change (c : Call) (s t : List ℕ) (r : ℕ) (p p′ : List ℕ) : Type 0 where
-  pub turn : Turn (asBook (keptIn s)) c s t r p p′
+pub record Change (c : Call) (s t : List ℕ) (r : ℕ) (q p q′ p′ : List ℕ) : Type 0 where
+  pub turn : Turn (asBook (keptIn s)) c s t r q p q′ p′
   pub told : outcomeIn s c ≡ bookOutcome (asBook (keptIn s)) c
   pub ready : Ready t
   pub book : asBook (keptIn t) ≡ bookAfter (asBook (keptIn s)) c
 
-pub changing-turn : (c : Call) (s t : List ℕ) (r : ℕ) (p p′ : List ℕ) → Changed c s p r t p′ → Ready s → Change c s t r p p′
-changing-turn c s t r p p′ x ready =
+pub changing-turn : (c : Call) (s t : List ℕ) (r : ℕ) (q p q′ p′ : List ℕ) → Changed c s q p r t q′ p′ → Ready s → Change c s t r q p q′ p′
+changing-turn c s t r q p q′ p′ x ready =
     let w = went s t c (changed-called s t c (x .leaves)) ready in
-    record { turn = turned s t c r p p′ w (x .number) (x .reply); told = w .turn .told; ready = w .ready; book = w .book }
+    record { turn = turned s t c r q p q′ p′ w (x .number) (x .buffer) (x .reply); told = w .turn .told; ready = w .ready; book = w .book }
 
 pub record Ask (c : Call) (s t : List ℕ) (r : ℕ) (q p q′ p′ : List ℕ) : Type 0 where
   pub asking : Asking (asBook (keptIn s)) c s t r q p q′ p′
@@ -112,7 +119,7 @@ asking-turn : (c : Call) (s : List ℕ) (r : ℕ) (q p q′ p′ : List ℕ) →
 asking-turn c s r q p q′ p′ never x ready =
     let w = went s s c (asked-called s c never) ready in
     record {
-      asking = record { turn = turned s s c r p p′ w (x .number) (x .reply); buffer = x .buffer ∙ ap (λ (o : Outcome). bufferAfter o q) (w .turn .told); same = refl };
+      asking = record { turn = turned s s c r q p q′ p′ w (x .number) (x .buffer) (x .reply); same = refl };
       told = w .turn .told;
       ready = w .ready;
       book = w .book;

@@ -16,18 +16,19 @@ abbrev pub KeepsBook : Book → List ℕ → Type 0
 KeepsBook b s = demand.KeepsBook (List ℕ) keptIn conditionOf b s
 
 -- What holds of a call at its turn, b being the book before it: it found the store s and left the store t, returned r,
--- and the reply p is p′ now.
-pub record Turn (b : Book) (c : Call) (s t : List ℕ) (r : ℕ) (p p′ : List ℕ) : Type 0 where
+-- and what the host lent, the buffer q and the reply p, is q′ and p′ now.
+pub record Turn (b : Book) (c : Call) (s t : List ℕ) (r : ℕ) (q p q′ p′ : List ℕ) : Type 0 where
   -- "Each call's refusal, place, answer, length and list .. are the book's"
   pub number : r ≡ returned (bookOutcome b c)
+  -- the Withs, the references, or what a change moved
+  pub buffer : q′ ≡ bufferAfter (bookOutcome b c) q
   pub reply : p′ ≡ replyAfter (bookOutcome b c) p
   -- "and the texts, kept answers and kept references in the store after it"
   pub keeps : KeepsBook (bookAfter b c) t
-  -- only what may move has moved
+  -- only what may move has moved, and a change tells exactly what has
   pub moves : demand.Moves (keptIn s) c (bookOutcome b c) (keptIn t)
 
--- Of an asking beside it: the list in the buffer q, which is q′ now, and the store is as it was, byte for byte.
+-- Of an asking beside it: the store is as it was, byte for byte.
 pub record Asking (b : Book) (c : Call) (s t : List ℕ) (r : ℕ) (q p q′ p′ : List ℕ) : Type 0 where
-  pub turn : Turn b c s t r p p′
-  pub buffer : q′ ≡ bufferAfter (bookOutcome b c) q
+  pub turn : Turn b c s t r q p q′ p′
   pub same : t ≡ s

@@ -57,32 +57,36 @@ pub extern "C" fn lang_ast_ask_name(
     ask_name(store, number, buffer, reply)
 }
 
-// A Reference gets another text.
+// A Reference gets another text; it comes into the buffer if it means something else then.
 #[no_mangle]
 pub extern "C" fn lang_ast_change_reference(
     store: &mut [u8],
     number: u32,
     text: &[u8],
+    moved: &mut [u8],
     reply: &mut [u8],
 ) -> u32
-    ensures { λ r. ⌜ r ≡ returned (outcomeIn (now (store .entry)) (changeReference number (now (text .entry)) (length (now (reply .entry))))) ⌝ }
-    ensures { λ _. ⌜ now (reply .exit) ≡ replyAfter (outcomeIn (now (store .entry)) (changeReference number (now (text .entry)) (length (now (reply .entry))))) (now (reply .entry)) ⌝ }
-    ensures { λ _. ⌜ requests.Leaves (changeReference number (now (text .entry)) (length (now (reply .entry)))) (now (store .entry)) (now (store .exit)) ⌝ }
+    ensures { λ r. ⌜ r ≡ returned (outcomeIn (now (store .entry)) (changeReference number (now (text .entry)) (length (now (moved .entry))) (length (now (reply .entry))))) ⌝ }
+    ensures { λ _. ⌜ now (moved .exit) ≡ bufferAfter (outcomeIn (now (store .entry)) (changeReference number (now (text .entry)) (length (now (moved .entry))) (length (now (reply .entry))))) (now (moved .entry)) ⌝ }
+    ensures { λ _. ⌜ now (reply .exit) ≡ replyAfter (outcomeIn (now (store .entry)) (changeReference number (now (text .entry)) (length (now (moved .entry))) (length (now (reply .entry))))) (now (reply .entry)) ⌝ }
+    ensures { λ _. ⌜ requests.Leaves (changeReference number (now (text .entry)) (length (now (moved .entry))) (length (now (reply .entry)))) (now (store .entry)) (now (store .exit)) ⌝ }
 {
-    change_reference(store, number, text, reply)
+    change_reference(store, number, text, moved, reply)
 }
 
-// A name gets another text.
+// A name gets another text; the References that mean something else then come into the buffer, in ascending order.
 #[no_mangle]
 pub extern "C" fn lang_ast_change_name(
     store: &mut [u8],
     number: u32,
     text: &[u8],
+    moved: &mut [u8],
     reply: &mut [u8],
 ) -> u32
-    ensures { λ r. ⌜ r ≡ returned (outcomeIn (now (store .entry)) (changeName number (now (text .entry)) (length (now (reply .entry))))) ⌝ }
-    ensures { λ _. ⌜ now (reply .exit) ≡ replyAfter (outcomeIn (now (store .entry)) (changeName number (now (text .entry)) (length (now (reply .entry))))) (now (reply .entry)) ⌝ }
-    ensures { λ _. ⌜ requests.Leaves (changeName number (now (text .entry)) (length (now (reply .entry)))) (now (store .entry)) (now (store .exit)) ⌝ }
+    ensures { λ r. ⌜ r ≡ returned (outcomeIn (now (store .entry)) (changeName number (now (text .entry)) (length (now (moved .entry))) (length (now (reply .entry))))) ⌝ }
+    ensures { λ _. ⌜ now (moved .exit) ≡ bufferAfter (outcomeIn (now (store .entry)) (changeName number (now (text .entry)) (length (now (moved .entry))) (length (now (reply .entry))))) (now (moved .entry)) ⌝ }
+    ensures { λ _. ⌜ now (reply .exit) ≡ replyAfter (outcomeIn (now (store .entry)) (changeName number (now (text .entry)) (length (now (moved .entry))) (length (now (reply .entry))))) (now (reply .entry)) ⌝ }
+    ensures { λ _. ⌜ requests.Leaves (changeName number (now (text .entry)) (length (now (moved .entry))) (length (now (reply .entry)))) (now (store .entry)) (now (store .exit)) ⌝ }
 {
-    change_name(store, number, text, reply)
+    change_name(store, number, text, moved, reply)
 }

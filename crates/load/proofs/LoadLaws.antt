@@ -2,7 +2,7 @@
 -- nothing.
 use mathlib.Core.Path.{_≡_, refl, sym, _∙_}
 use mathlib.Core.Bool.{or-true}
-use mathlib.Core.List.{List}
+use mathlib.Core.List.{List, []}
 use Prim.Native.Nat.{ℕ, _%_, _≤_, _<_}
 use native.Mathlib.Omega.{arith}
 use lib.ListN.{length}
@@ -10,7 +10,7 @@ use lib.Dec.{ltb}
 use borrow.Author.Tests.{le-ltb, lt-ltb}
 use Rattle.spec.specs.Sheet.{Judged}
 use Rattle.spec.specs.Tree.{judge}
-use Rattle.spec.specs.Calls.{refusal, accepted, replyBytes, loading}
+use Rattle.spec.specs.Calls.{refusal, replyBytes, loading}
 use Rattle.spec.proofs.reading.Refusals.{refused-place}
 use Rattle.sheet.specs.Sheets.{answer}
 use Rattle.sheet.specs.declared.position.Position.{Position}
@@ -18,7 +18,7 @@ use Rattle.sheet.specs.declared.sheets.SheetRead.{SheetRead}
 use Rattle.sheet.specs.declared.sheets.SheetRead.the-variants.{Accepted, Refused}
 use Rattle.layout.specs.Layout.{Long, storeBytes}
 use Rattle.soundness.specs.Sound.{conditionOf}
-use Rattle.replies.specs.Replies.{returned, replyAfter, loadOutcome, Told}
+use Rattle.replies.specs.Replies.{returned, replyAfter, loadOutcome, Told, ToldMoved}
 use Rattle.replies.proofs.ReplyLaws.{reply-short}
 use Rattle.load.specs.Loads.{judgedIn, Leaves}
 use Rattle.load.specs.Filled.{Fills}
@@ -68,10 +68,10 @@ module _ (sheet s p : List ℕ) where
             let whole : place % 4294967296 ≡ v = omega (arith, place-is, refused-place sheet n v i) in
             promised s (Judged.refused n v) (by-sheet long room ∙ i) (rw (number-is, whole) at told) refl
 
-    pub sheet-accepted : (count : ℕ) (first : Position) {r : ℕ} {t q : List ℕ} → a ≡ Accepted count first → Fills sheet s t → Told accepted p r q → Promise sheet s p r t q
+    pub sheet-accepted : (count : ℕ) (first : Position) {r : ℕ} {t q : List ℕ} → a ≡ Accepted count first → Fills sheet s t → ToldMoved 0 p r q → Promise sheet s p r t q
     unfolding answer loadOutcome Leaves
     sheet-accepted count first {r} {t} {q} h fills told = by-judged (judge sheet) refl (sym h ∙ e)
       where
         by-judged : (j : Judged) → judge sheet ≡ j → Accepted count first ≡ answer sheet j → Promise sheet s p r t q
-        by-judged (Judged.accepted ns) i k = promised t (Judged.accepted ns) (by-sheet long room ∙ i) told (fills .does ns i)
+        by-judged (Judged.accepted ns) i k = promised t (Judged.accepted ns) (by-sheet long room ∙ i) (told .says [] refl) (fills .does ns i)
         by-judged (Judged.refused n v) i k = let z : _≡_ {A = ℕ} 0 1 = cc in absurd (omega arith)

@@ -44,7 +44,7 @@ pub fn load(sheet: &[u8], store: &mut [u8], reply: &mut [u8]) -> u32
         SheetRead::Refused(number, place) => refuse(reply, number, (place % 4294967296) as u32),
         SheetRead::Accepted(_, _) => {
             fill(sheet, store);
-            accept(reply)
+            accept(reply, 0)
         }
     }
 }

@@ -1,15 +1,15 @@
 -- Answers worked out, and from these the kept references listed anew. Assumes nothing.
-use mathlib.Core.Path.{_≡_, refl, sym, ap, _∙_}
+use mathlib.Core.Path.{_≡_, refl, sym, _∙_}
 use mathlib.Core.Logic.{_⊎_, inl, inr, ⊎-elim}
 use mathlib.Core.Bool.{true}
-use mathlib.Core.List.{List, [], _∷_}
+use mathlib.Core.List.{List}
 use mathlib.Core.Option.{Option}
-use Prim.Native.Nat.{ℕ, _+_, _*_, _≤_, _<_}
+use Prim.Native.Nat.{ℕ, _+_, _*_, _<_}
 use native.Mathlib.Omega.{arith}
 use Rattle.words.specs.Words.{word}
-use Rattle.spec.specs.Basics.{Text, ExprId}
+use Rattle.spec.specs.Basics.{ExprId}
 use Rattle.spec.specs.Answer.{Answer}
-use Rattle.spec.specs.Kept.{Kept, tabulate, answersAfresh, referencesAfresh, keptAnswer, resolvedAgain, answeredWith, changedTo}
+use Rattle.spec.specs.Kept.{Kept, tabulate, answeredWith}
 use Rattle.layout.specs.Layout.{exprLimit, nameLimit, useRow, exprCount, nameCount, usesAt, scopesAt, firstsAt}
 use Rattle.layout.specs.Rows.{cap}
 use Rattle.layout.specs.Changes.{Outside, Wrote, Still}
@@ -25,11 +25,11 @@ use Rattle.kept.specs.Answers.{AnswerFits, Unmoved}
 use Rattle.kept.specs.References.{Listed, withReferences}
 use Rattle.listing.specs.Lists.{relisting, Lists}
 use Rattle.listing.proofs.Afresh.{references-listed}
-use Rattle.nameres.specs.Resolution.{Nameable, Scoped, withAnswers, Answers, AnswersAll, Resolved, ResolvedAgain}
+use Rattle.nameres.specs.Resolution.{Nameable, Scoped, withAnswers, Answers, AnswersAll, Resolved}
 use Rattle.nameres.proofs.StepLaws.{scoped-still}
 
 module _ (as′ : Kept → List (Option Answer)) (s u t : List ℕ) (a : Answers as′ s u) (l : Lists u t) where
-  both-wrote : Wrote resolving s t
+  pub both-wrote : Wrote resolving s t
   unfolding Outside relisting
   both-wrote = record {
     size = l .wrote .size ∙ a .wrote .size;
@@ -38,15 +38,15 @@ module _ (as′ : Kept → List (Option Answer)) (s u t : List ℕ) (a : Answers
         ∙ a .wrote .other j (o .0, tt);
   }
 
-  both-still : Still s t
+  pub both-still : Still s t
   both-still = still-then (a .still) (l .still)
 
-  both-placed : Unmoved s t
+  pub both-placed : Unmoved s t
   unfolding relisting
   both-placed = record { scope = λ e q. same-on usesAt scopesAt (l .wrote) refl (usesAt + useRow * e) (omega arith) (omega arith) ∙ a .placed .scope e q }
 
   -- all fits where every answer does once the answers are written
-  both-fits : Scoped s → ((e : ExprId) → e < word s exprCount → AnswerFits u e) → keptFits t ≡ true
+  pub both-fits : Scoped s → ((e : ExprId) → e < word s exprCount → AnswerFits u e) → keptFits t ≡ true
   unfolding AnswerFits relisting
   both-fits h fit = kept-from t (fitting (number-kept (l .wrote) 0 refl) (number-kept (l .wrote) 4 refl) (number-kept (a .wrote) 0 refl) (number-kept (a .wrote) 4 refl))
     where
@@ -73,7 +73,7 @@ module _ (as′ : Kept → List (Option Answer)) (s u t : List ℕ) (a : Answers
           }
 
   -- what is kept then
-  both-does : Nameable (scopesIn s)
+  pub both-does : Nameable (scopesIn s)
       → keptIn t ≡ withReferences (tabulate (λ x. answeredWith x 0 (as′ (keptIn s))) 0 (keptIn s .lowered .names)) (withAnswers (as′ (keptIn s)) (keptIn s))
   unfolding withAnswers
   both-does named = l .does ∙ rw (a .does named)
@@ -89,19 +89,6 @@ resolved s u t all l =
       placed = both-placed _ s u t a l;
       fits = λ h. both-fits _ s u t a l h (all .fit h);
       does = λ named. both-does _ s u t a l named ∙ rw (references-listed (keptIn s .lowered) (keptIn s .scopes));
-    }
-
--- THEOREM. All is kept as the definition of a change has it.
-pub resolved-again : (old new : Text) (s u t : List ℕ)
-    → Answers (λ k. tabulate (resolvedAgain (k .lowered) (k .scopes) (keptAnswer k) old new) 0 (k .lowered .exprs)) s u → Lists u t → ResolvedAgain old new s t
-unfolding withAnswers withReferences changedTo
-resolved-again old new s u t a l =
-    record {
-      wrote = both-wrote _ s u t a l;
-      still = both-still _ s u t a l;
-      placed = both-placed _ s u t a l;
-      fits = λ h fitted. both-fits _ s u t a l h (λ e q. a .fits h e (fitted e q));
-      does = λ named. both-does _ s u t a l named;
     }
 
 -- scopes fit while all is resolved

@@ -1,34 +1,30 @@
 -- One answer worked out, and the answers of all expressions, in a store. Assumes nothing.
 use mathlib.Core.Path.{_≡_, refl, sym, ap, _∙_}
-use mathlib.Core.Bool.{Bool, true, false, _||_}
-use mathlib.Core.List.{List, [], _∷_}
+use mathlib.Core.Bool.{Bool, true, false}
+use mathlib.Core.List.{List}
 use mathlib.Core.Option.{Option, none, some}
-use Prim.Native.Nat.{ℕ, suc, _+_, _*_, _≤_, _<_}
+use Prim.Native.Nat.{ℕ, _+_, _*_, _≤_, _<_}
 use native.Mathlib.Numerals.{add-one}
 use native.Mathlib.Omega.{arith}
-use lib.Dec.{eqb, ltb}
-use lib.ListN.{length, getD, set}
-use lib.Seq.{set-getD}
+use lib.Dec.{ltb}
+use lib.ListN.{length}
 use borrow.Author.Tests.{ne-eqb, ltb-true, ltb-false}
-use Rattle.words.specs.Equality.{equalb}
-use Rattle.words.specs.Order.{pick}
-use Rattle.spec.specs.Basics.{Text, ExprId, ScopeId}
-use Rattle.spec.specs.Module.{Module}
+use Rattle.spec.specs.Basics.{ExprId}
 use Rattle.spec.specs.Lower.{moduleOf}
-use Rattle.spec.specs.Scopes.{Scopes, exprAt}
+use Rattle.spec.specs.Scopes.{exprAt}
 use Rattle.spec.specs.Answer as spec
 use Rattle.spec.specs.Answer.{textOfName, answerAt, scopeOfExpr, referenceText, answerOf, answer}
-use Rattle.spec.specs.Kept.{Kept, tabulate, answersAfresh, keptAnswer, bears, resolvedAgain}
+use Rattle.spec.specs.Kept.{Kept, answersAfresh}
 use Rattle.layout.specs.Layout.{absent, exprLimit, useRow, exprCount, nameCount, usesAt, scopesAt, firstsAt}
-use Rattle.layout.specs.Rows.{cap, rowsTo}
-use Rattle.layout.specs.Changes.{Wrote, Still}
+use Rattle.layout.specs.Rows.{cap}
+use Rattle.layout.specs.Changes.{Wrote}
 use Rattle.layout.specs.Regions.{answering}
 use Rattle.layout.specs.Texts.{textIn, maybeText}
 use Rattle.layout.specs.Exprs.{madeIn}
 use Rattle.layout.specs.States.{exprsOf, stateOf, moduleIn}
 use Rattle.layout.specs.Keeps.{scopesIn, answerIn, keptIn}
 use Rattle.layout.proofs.RowLaws.{length-rows, cap-le}
-use Rattle.layout.proofs.Frames.{same-on, number-kept, wrote-none, wrote-then, text-still}
+use Rattle.layout.proofs.Frames.{same-on, number-kept, wrote-none, wrote-then}
 use Rattle.layout.proofs.WriteLaws.{still-then}
 use Rattle.words.specs.Words.{word}
 use Rattle.module.specs.declared.ids.MaybeText.{MaybeText}
@@ -42,12 +38,12 @@ use Rattle.spec.proofs.general.Sums.{compared}
 use Rattle.soundness.proofs.FrameLaws.{scopes-fit-kept}
 use Rattle.nameres.proofs.UseLaws.{unanswered, answered}
 use Rattle.kept.proofs.SoundChanges.{answered-wrote, answered-placed, answered-other}
-use Rattle.nameres.specs.Resolution.{Nameable, Scoped, withAnswers, setTo, Answers, oneAfresh, oneAgain, firstAfresh, firstAgain, AnswersOne, AnswersFirst, AnswersAll}
+use Rattle.nameres.specs.Resolution.{Nameable, Scoped, withAnswers, setTo, Answers, oneAfresh, firstAfresh, AnswersOne, AnswersFirst, AnswersAll}
 use Rattle.nameres.proofs.HeldLaws.{answer-held, word-fits}
-use Rattle.nameres.proofs.AnswerLoops.{getD-setTo-past, setTo-all}
+use Rattle.nameres.proofs.AnswerLoops.{setTo-all}
 use Rattle.kept.proofs.AnswerLaws.{scopes-of}
 
-module-kept : (s : List ℕ) → keptIn s .lowered ≡ moduleIn s
+pub module-kept : (s : List ℕ) → keptIn s .lowered ≡ moduleIn s
 unfolding keptIn
 module-kept s = refl
 
@@ -83,7 +79,7 @@ answers-none as′ s e =
     }
 
 -- the same answers, said otherwise
-answers-as : (as′ bs′ : Kept → List (Option spec.Answer)) (s t : List ℕ) → Answers as′ s t → as′ (keptIn s) ≡ bs′ (keptIn s) → Answers bs′ s t
+pub answers-as : (as′ bs′ : Kept → List (Option spec.Answer)) (s t : List ℕ) → Answers as′ s t → as′ (keptIn s) ≡ bs′ (keptIn s) → Answers bs′ s t
 answers-as as′ bs′ s t a e =
     record {
       wrote = a .wrote;
@@ -172,30 +168,14 @@ module _ (s t : List ℕ) (e k : ℕ) (r : MaybeText) (a : Answer)
         fit = put-fit s t e a put its-word;
       }
 
--- ---- resolved again or not
-module _ (s : List ℕ) (old new : Text) (e : ExprId) where
-  -- it bears neither text
-  pub again-unborne : (bears old (referenceText (exprAt (moduleIn s) e)) || bears new (referenceText (exprAt (moduleIn s) e))) ≡ false → Answers (oneAgain old new e) s s
-  unfolding oneAgain resolvedAgain keptAnswer
-  again-unborne h = answers-none (oneAgain old new e) s (rw (module-kept s, h) (set-getD (keptIn s .answers) e none))
-
-  -- it bears one of them
-  pub again-borne : (t : List ℕ) → (bears old (referenceText (exprAt (moduleIn s) e)) || bears new (referenceText (exprAt (moduleIn s) e))) ≡ true → AnswersOne e s t → Answers (oneAgain old new e) s t
-  unfolding oneAgain oneAfresh resolvedAgain
-  again-borne t h w = answers-as (oneAfresh e) (oneAgain old new e) s t (w .answers) (rw (module-kept s, h))
-
 -- ---- all expressions, one after the other
-named-still : (as′ : List (Option spec.Answer)) (s u : List ℕ) → keptIn u ≡ withAnswers as′ (keptIn s) → Nameable (scopesIn s) → Nameable (scopesIn u)
+pub named-still : (as′ : List (Option spec.Answer)) (s u : List ℕ) → keptIn u ≡ withAnswers as′ (keptIn s) → Nameable (scopesIn s) → Nameable (scopesIn u)
 unfolding withAnswers
 named-still as′ s u e h = rw (sym (scopes-of u) ∙ ap (λ (k : Kept). k .scopes) e ∙ scopes-of s) h
 
 pub afresh-none : (s : List ℕ) → AnswersFirst 0 s s
 unfolding firstAfresh setTo
 afresh-none s = record { answers = answers-none (firstAfresh 0) s refl; fit = λ _ e l. absurd (omega arith) }
-
-pub again-none : (old new : Text) (s : List ℕ) → Answers (firstAgain old new 0) s s
-unfolding firstAgain setTo
-again-none old new s = answers-none (firstAgain old new 0) s refl
 
 more-afresh : (n : ℕ) (s u t : List ℕ) → Answers (firstAfresh n) s u → Answers (oneAfresh n) u t → Answers (firstAfresh (n + 1)) s t
 unfolding firstAfresh oneAfresh setTo withAnswers
@@ -220,28 +200,8 @@ afresh-more n s u t a b =
           (λ q. b .answers .fits scoped e (a .fit h e (omega arith) k));
     }
 
-again-more : (old new : Text) (n : ℕ) (s u t : List ℕ) → Answers (firstAgain old new n) s u → Answers (oneAgain old new n) u t → Answers (firstAgain old new (n + 1)) s t
-unfolding firstAgain oneAgain setTo withAnswers resolvedAgain keptAnswer
-again-more old new n s u t a b =
-    record {
-      wrote = wrote-then (a .wrote) (b .wrote);
-      still = still-then (a .still) (b .still);
-      placed = record { scope = λ e l. b .placed .scope e l ∙ a .placed .scope e l };
-      fits = λ h e f. b .fits (scoped-still _ s u a h) e (a .fits h e f);
-      does = λ named.
-          b .does (named-still _ s u (a .does named) named)
-          ∙ rw (a .does named, add-one, getD-setTo-past (resolvedAgain (keptIn s .lowered) (keptIn s .scopes) (keptAnswer (keptIn s)) old new) none n (keptIn s .answers) n (omega arith));
-    }
-
--- the texts stay, so that it is the same two all along
-pub again-next : (old new n : ℕ) (s u t : List ℕ) → Answers (firstAgain (textIn s old) (textIn s new) n) s u
-    → Answers (oneAgain (textIn u old) (textIn u new) n) u t → Answers (firstAgain (textIn s old) (textIn s new) (n + 1)) s t
-again-next old new n s u t a b =
-    again-more (textIn s old) (textIn s new) n s u t a
-    (rw (text-still s u old (a .still), text-still s u new (a .still)) at b)
-
 -- as many answers as expressions
-answers-many : (s : List ℕ) → length (keptIn s .answers) ≡ length (exprsOf s)
+pub answers-many : (s : List ℕ) → length (keptIn s .answers) ≡ length (exprsOf s)
 unfolding keptIn exprsOf
 answers-many s = length-rows (answerIn s) (cap (word s exprCount) exprLimit) ∙ sym (length-rows (madeIn s) (cap (word s exprCount) exprLimit))
 
@@ -255,13 +215,6 @@ afresh-all n s t e a =
     answers-as (firstAfresh n) (λ k. answersAfresh (k .lowered) (k .scopes)) s t a
     (setTo-all (answer (keptIn s .lowered) (keptIn s .scopes)) none n (keptIn s .answers) (keptIn s .lowered .exprs) (answers-many s ∙ sym e) (exprs-many s ∙ sym e))
 
-again-all : (old new : Text) (n : ℕ) (s t : List ℕ) → n ≡ length (exprsOf s) → Answers (firstAgain old new n) s t
-    → Answers (λ k. tabulate (resolvedAgain (k .lowered) (k .scopes) (keptAnswer k) old new) 0 (k .lowered .exprs)) s t
-unfolding firstAgain
-again-all old new n s t e a =
-    answers-as (firstAgain old new n) (λ k. tabulate (resolvedAgain (k .lowered) (k .scopes) (keptAnswer k) old new) 0 (k .lowered .exprs)) s t a
-    (setTo-all (resolvedAgain (keptIn s .lowered) (keptIn s .scopes) (keptAnswer (keptIn s)) old new) none n (keptIn s .answers) (keptIn s .lowered .exprs) (answers-many s ∙ sym e) (exprs-many s ∙ sym e))
-
 -- there are no more expressions than the count says
 exprs-used : (s : List ℕ) → Scoped s → length (exprsOf s) ≡ word s exprCount
 unfolding exprsOf
@@ -274,29 +227,3 @@ afresh-done e n s t a l h c =
       answers = afresh-all e s t (omega (arith, c)) (a .answers);
       fit = λ scoped i k. a .fit scoped i (omega (arith, c, exprs-used s scoped)) k;
     }
-
-pub again-done : (old new : Text) (e n : ℕ) (s t : List ℕ) → Answers (firstAgain old new e) s t → e ≤ n → n ≤ e → n ≡ length (exprsOf s)
-    → Answers (λ k. tabulate (resolvedAgain (k .lowered) (k .scopes) (keptAnswer k) old new) 0 (k .lowered .exprs)) s t
-again-done old new e n s t a l h c = again-all old new e s t (omega (arith, c)) a
-
--- ---- which expressions bear one of two texts
-abbrev either : Text → Text → Option Text → Bool
-either old new o = bears old o || bears new o
-
-module _ (s : List ℕ) (e : ExprId) (old new : Text) (r : MaybeText) (h : maybeText s r ≡ referenceText (exprAt (moduleIn s) e)) where
-  pub bears-none : r ≡ maybe-text.Absent → false ≡ either old new (referenceText (exprAt (moduleIn s) e))
-  unfolding bears maybeText
-  bears-none q = ap (either old new) (sym (ap (maybeText s) q) ∙ h)
-
-  module _ (k : ℕ) (q : r ≡ maybe-text.Text (record { 0 = k })) (a : Bool) (first : a ≡ equalb old (textIn s k)) where
-    borne : either old new (some (textIn s k)) ≡ either old new (referenceText (exprAt (moduleIn s) e))
-    unfolding maybeText
-    borne = ap (either old new) (sym (ap (maybeText s) q) ∙ h)
-
-    pub bears-old : a ≡ true → true ≡ either old new (referenceText (exprAt (moduleIn s) e))
-    unfolding bears
-    bears-old z = ap (λ (b : Bool). b || equalb new (textIn s k)) (sym z ∙ first) ∙ borne
-
-    pub bears-new : (b : Bool) → a ≡ false → b ≡ equalb new (textIn s k) → b ≡ either old new (referenceText (exprAt (moduleIn s) e))
-    unfolding bears
-    bears-new b z second = second ∙ ap (λ (c : Bool). c || equalb new (textIn s k)) (sym z ∙ first) ∙ borne

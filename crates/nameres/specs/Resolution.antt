@@ -1,4 +1,4 @@
--- compute_name_resolution in a store: the kept answer of every Reference, and the step that a change of one text needs.
+-- compute_name_resolution in a store: the kept answer of every Reference, and of every name its references.
 use mathlib.Core.Path.{_≡_}
 use mathlib.Core.Bool.{true}
 use mathlib.Core.List.{List}
@@ -6,15 +6,14 @@ use mathlib.Core.Option.{Option}
 use Prim.Native.Nat.{ℕ, zero, suc, _≤_, _<_}
 use lib.ListN.{set}
 use Rattle.words.specs.Words.{word}
-use Rattle.spec.specs.Basics.{Text, ExprId, NameId, ScopeId}
+use Rattle.spec.specs.Basics.{ExprId, ScopeId}
 use Rattle.spec.specs.Scopes.{Scopes}
 use Rattle.spec.specs.Answer.{Answer, answer, scopeAt}
-use Rattle.spec.specs.Kept.{Kept, answersAfresh, referencesAfresh, keptAnswer, resolvedAgain, changedTo}
+use Rattle.spec.specs.Kept.{Kept, answersAfresh, referencesAfresh}
 use Rattle.spec.proofs.sound.ScopeRange.{KindIn}
 use Rattle.layout.specs.Layout.{exprCount, nameCount, exprLimit, nameLimit}
 use Rattle.layout.specs.Changes.{Wrote, Still}
 use Rattle.layout.specs.Regions.{answering, resolving}
-use Rattle.layout.specs.States.{moduleIn}
 use Rattle.layout.specs.Keeps.{scopesIn, keptIn}
 use Rattle.soundness.specs.Sound.{keptFits}
 use Rattle.soundness.specs.Coded.{ScopesFit}
@@ -47,19 +46,13 @@ pub record Answers (as′ : Kept → List (Option Answer)) (s t : List ℕ) : Ty
   pub fits : Scoped s → (e : ExprId) → AnswerFits s e → AnswerFits t e
   pub does : Nameable (scopesIn s) → keptIn t ≡ withAnswers (as′ (keptIn s)) (keptIn s)
 
--- the answer of the expression e worked out afresh, or again where it bears the old or the new text
+-- the answer of the expression e worked out afresh
 unfoldable pub oneAfresh : ExprId → Kept → List (Option Answer)
 oneAfresh e k = set (k .answers) e (answer (k .lowered) (k .scopes) e)
-
-unfoldable pub oneAgain : Text → Text → ExprId → Kept → List (Option Answer)
-oneAgain old new e k = set (k .answers) e (resolvedAgain (k .lowered) (k .scopes) (keptAnswer k) old new e)
 
 -- the answers of the first n expressions
 unfoldable pub firstAfresh : ℕ → Kept → List (Option Answer)
 firstAfresh n k = setTo (answer (k .lowered) (k .scopes)) n (k .answers)
-
-unfoldable pub firstAgain : Text → Text → ℕ → Kept → List (Option Answer)
-firstAgain old new n k = setTo (resolvedAgain (k .lowered) (k .scopes) (keptAnswer k) old new) n (k .answers)
 
 -- ---- worked out afresh, an answer fits whatever stood there
 -- of the expression e
@@ -91,12 +84,3 @@ pub record Resolved (s t : List ℕ) : Type 0 where
     references = referencesAfresh (keptIn s .lowered) (keptIn s .scopes);
     spent = keptIn s .spent;
   })
-
--- The References that bear the old or the new text are resolved again, and the kept lists are up to date. All fits
--- where every answer fitted.
-pub record ResolvedAgain (old new : Text) (s t : List ℕ) : Type 0 where
-  pub wrote : Wrote resolving s t
-  pub still : Still s t
-  pub placed : Unmoved s t
-  pub fits : Scoped s → ((e : ExprId) → e < word s exprCount → AnswerFits s e) → keptFits t ≡ true
-  pub does : Nameable (scopesIn s) → keptIn t ≡ changedTo (keptIn s) (keptIn s .lowered) old new (keptIn s .spent)

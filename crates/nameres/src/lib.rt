@@ -1,10 +1,9 @@
 // nameres.rs, from compute_name_resolution on: the kept answer of every Reference and the kept references of every
-// name, for a module and after a change of one text.
+// name.
 //
 // It knows no byte offset. Every contract is an equation with the definitions of what a store keeps.
 mod resolution;
 mod whole;
 
 pub use resolution::compute_name_resolution;
-pub use resolution::resolve_again;
 pub use whole::keep_module;

@@ -1,17 +1,15 @@
 -- One text changed in a store, and with it what is kept of answers and references.
 use mathlib.Core.Path.{_≡_}
-use mathlib.Core.Bool.{true, not}
+use mathlib.Core.Bool.{true, false}
 use mathlib.Core.List.{List}
-use mathlib.Core.Option.{none, some}
-use Prim.Native.Nat.{ℕ, _+_, _≤_}
+use Prim.Native.Nat.{ℕ, _+_, _*_, _≤_}
 use lib.ListN.{length}
 use Rattle.words.specs.Equality.{equalb}
-use Rattle.spec.specs.Basics.{Text, ExprId, NameId}
-use Rattle.spec.specs.Scopes.{exprAt}
-use Rattle.spec.specs.Answer.{referenceText}
-use Rattle.spec.specs.Calls.{Call, changeReference, changeName, oldText, newText}
-use Rattle.spec.specs.Kept.{Kept, keptWith}
+use Rattle.spec.specs.Basics.{Text}
+use Rattle.spec.specs.Calls.{Place, textAt}
+use Rattle.spec.specs.Kept.{movedBy, changedTo}
 use Rattle.layout.specs.Layout.{roomLimit}
+use Rattle.layout.specs.Rows.{setAll}
 use Rattle.layout.specs.Changes.{Wrote, Still}
 use Rattle.layout.specs.Regions.{spending, changing}
 use Rattle.layout.specs.Keeps.{keptIn}
@@ -23,24 +21,17 @@ pub record Spends (n : ℕ) (s t : List ℕ) : Type 0 where
   pub still : Still s t
   pub does : keptIn s .spent + n ≤ roomLimit → keptIn t ≡ record { lowered = keptIn s .lowered; scopes = keptIn s .scopes; answers = keptIn s .answers; references = keptIn s .references; spent = keptIn s .spent + n }
 
--- what a change makes of what is kept: nothing where the text is the old one
-unfoldable pub changed : Kept → Call → Kept
-changed k c = keptWith k c (not (equalb (oldText (k .lowered) c) (newText c)))
+-- A change that may be made: the store is sound and its room holds the text, which is another than the one there, and
+-- the buffer has room for what it moves.
+pub record Changeable (p : Place) (bytes : Text) (s b : List ℕ) : Type 0 where
+  pub fine : sound s ≡ true
+  pub room : keptIn s .spent + length bytes ≤ roomLimit
+  pub other : equalb (textAt (keptIn s .lowered) p) bytes ≡ false
+  pub fits : 4 * length (movedBy (keptIn s) p bytes) ≤ length b
 
--- The change is made, where the store is sound and its change room holds the text, and the store is sound then. An
--- equal text leaves every byte as it is, in any store.
-pub record Changes (c : Call) (s t : List ℕ) : Type 0 where
+-- It is made, and the store is sound then; what it moved stands in the buffer b, which is c now.
+pub record Changes (p : Place) (bytes : Text) (s b t c : List ℕ) : Type 0 where
   pub wrote : Wrote changing s t
-  pub does : sound s ≡ true → keptIn s .spent + length (newText c) ≤ roomLimit → keptIn t ≡ changed (keptIn s) c
-  pub leaves : sound s ≡ true → keptIn s .spent + length (newText c) ≤ roomLimit → sound t ≡ true
-  pub equal : oldText (keptIn s .lowered) c ≡ newText c → t ≡ s
-
--- of a name: whatever the length of the host's reply is
-pub record ChangesName (x : NameId) (bytes : Text) (s t : List ℕ) : Type 0 where
-  pub says : (reply : ℕ) → Changes (changeName x bytes reply) s t
-
--- of a Reference; nothing where the expression is none
-pub record ChangesReference (e : ExprId) (bytes : Text) (s t : List ℕ) : Type 0 where
-  pub says : (reply : ℕ) (old : Text) → referenceText (exprAt (keptIn s .lowered) e) ≡ some old → Changes (changeReference e bytes reply) s t
-  pub other : referenceText (exprAt (keptIn s .lowered) e) ≡ none → t ≡ s
-  pub wrote : Wrote changing s t
+  pub does : keptIn t ≡ changedTo (keptIn s) p bytes
+  pub leaves : sound t ≡ true
+  pub list : c ≡ setAll b 0 (movedBy (keptIn s) p bytes)

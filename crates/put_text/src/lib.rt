@@ -1,22 +1,24 @@
-// One text changed: a row gets it, its length is spent, and what bears the old or the new text is resolved
-// again. An equal text changes nothing. Whether a change may be made is its caller's to check.
+// One text put in place of another: the answers that it moves are moved and listed, a row gets it, and its length is
+// spent. Whether a change may be made is its caller's to check.
 ghost use mathlib.Core.Path.{_≡_};
 ghost use Prim.Native.Nat.{_≤_};
+ghost use lib.ListN.{length};
+ghost use Rattle.spec.specs.Calls.{atName, atReference};
+ghost use Rattle.spec.specs.Kept.{movedBy};
 ghost use Rattle.layout.specs.Layout.{roomLimit, Long};
-ghost use Rattle.put_text.specs.Changed.{Spends, ChangesName, ChangesReference};
+ghost use Rattle.layout.specs.Keeps.{keptIn};
+ghost use Rattle.moving.specs.Moving.{Refers};
+ghost use Rattle.put_text.specs.Changed.{Spends, Changeable, Changes};
 use kept::set_spent;
 use kept::spent;
 use layout::tables::ROOM_LIMIT;
 use module::ExprId;
-use module::MaybeText;
 use module::NameId;
-use nameres::resolve_again;
-use rows::name_text;
-use rows::reference_text;
+use moving::move_by_name;
+use moving::move_by_reference;
 use store::set_name_text;
 use store::set_reference_text;
 use texts::add_text;
-use texts::text_is;
 
 const ROOM: usize = ROOM_LIMIT as usize;
 
@@ -43,39 +45,24 @@ fn spend(store: &mut [u8], n: usize)
     set_spent(store, before + short(n));
 }
 
-// The text is added first and the old one's number read then, since adding a text leaves all that a
-// sound store says as it was.
-pub fn put_name_text(store: &mut [u8], x: NameId, text: &[u8])
-    requires { ⌜ Long (now store) ⌝ }
-    ensures { λ _. ⌜ ChangesName (x .0) (now (text .entry)) (now (store .entry)) (now (store .exit)) ⌝ }
+// What the text moves is moved as if it were set; then it is.
+pub fn put_name_text(store: &mut [u8], x: NameId, text: &[u8], count: u32, moved: &mut [u8])
+    requires { ⌜ Long (now store) × (Changeable (atName (x .0)) (now text) (now store) (now moved) × (count ≡ length (movedBy (keptIn (now store)) (atName (x .0)) (now text)))) ⌝ }
+    ensures { λ _. ⌜ Changes (atName (x .0)) (now (text .entry)) (now (store .entry)) (now (moved .entry)) (now (store .exit)) (now (moved .exit)) ⌝ }
 {
-    let held = name_text(store, x);
-    if text_is(store, held, text) {
-        return;
-    }
+    move_by_name(store, x, text, count, moved);
     let new = add_text(store, text);
-    let old = name_text(store, x);
     set_name_text(store, x, new);
     spend(store, text.len());
-    resolve_again(store, old, new);
 }
 
-// The same of a Reference; an expression that is none has no text to change.
-pub fn put_reference_text(store: &mut [u8], e: ExprId, text: &[u8])
-    requires { ⌜ Long (now store) ⌝ }
-    ensures { λ _. ⌜ ChangesReference (e .0) (now (text .entry)) (now (store .entry)) (now (store .exit)) ⌝ }
+// The same of a Reference.
+pub fn put_reference_text(store: &mut [u8], e: ExprId, text: &[u8], moved: &mut [u8])
+    requires { ⌜ Long (now store) × (Refers (e .0) (now store) × Changeable (atReference (e .0)) (now text) (now store) (now moved)) ⌝ }
+    ensures { λ _. ⌜ Changes (atReference (e .0)) (now (text .entry)) (now (store .entry)) (now (moved .entry)) (now (store .exit)) (now (moved .exit)) ⌝ }
 {
-    let MaybeText::Text(held) = reference_text(store, e) else {
-        return;
-    };
-    if text_is(store, held, text) {
-        return;
-    }
+    move_by_reference(store, e, text, moved);
     let new = add_text(store, text);
-    let MaybeText::Text(old) = reference_text(store, e) else {
-        return;
-    };
     set_reference_text(store, e, new);
     spend(store, text.len());
-    resolve_again(store, old, new);
 }

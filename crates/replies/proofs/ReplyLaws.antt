@@ -1,16 +1,15 @@
 -- Five words written are the reply of an outcome. Assumes nothing.
-use mathlib.Core.Path.{_≡_, refl, sym, ap, _∙_}
+use mathlib.Core.Path.{_≡_, refl, _∙_}
 use mathlib.Core.List.{List, [], _∷_}
 use Prim.Native.Nat.{ℕ, _≤_, _<_}
 use lib.ListN.{length}
 use borrow.Author.Tests.{le-ltb, lt-ltb}
-use Rattle.spec.specs.Basics.{ExprId}
-use Rattle.spec.specs.Calls.{Outcome, refusal, answered, listed, accepted, replyBytes, withList}
+use Rattle.spec.specs.Calls.{Outcome, refusal, answered, listed, accepted, replyBytes}
 use Rattle.layout.specs.Rows.{setAll}
 use Rattle.answer.specs.declared.answer.Answer.{Answer}
 use Rattle.answer.specs.Answers.{answerWith}
 use Rattle.answer.specs.Told.{numberOf, valueOf, Tells}
-use Rattle.replies.specs.Replies.{returned, replyWords, replyAfter, Told, ToldList, ToldAnswer}
+use Rattle.replies.specs.Replies.{returned, replyWords, replyAfter, Told, ToldMoved, ToldList, ToldAnswer}
 
 -- a reply that is long enough has the words of the outcome
 pub reply-long : (o : Outcome) (p : List ℕ) → replyBytes ≤ length p → setAll p 0 (replyWords o) ≡ replyAfter o p
@@ -26,9 +25,9 @@ pub refused : (number place : ℕ) (p q : List ℕ) → replyBytes ≤ length p 
 unfolding returned replyWords
 refused number place p q h e = record { number = refl; reply = e ∙ reply-long (refusal number place) p h }
 
-pub done : (p q : List ℕ) → replyBytes ≤ length p → q ≡ setAll p 0 (0 ∷ 0 ∷ 0 ∷ 0 ∷ 0 ∷ []) → Told accepted p 0 q
+pub done : (n : ℕ) (p q : List ℕ) → replyBytes ≤ length p → q ≡ setAll p 0 (0 ∷ 0 ∷ 0 ∷ 0 ∷ n ∷ []) → ToldMoved n p 0 q
 unfolding returned replyWords
-done p q h e = record { number = refl; reply = e ∙ reply-long accepted p h }
+done n p q h e = record { says = λ es k. record { number = refl; reply = e ∙ (rw k at (reply-long (accepted es) p h)) } }
 
 pub told-list : (n : ℕ) (p q : List ℕ) → replyBytes ≤ length p → q ≡ setAll p 0 (0 ∷ 0 ∷ 0 ∷ 0 ∷ n ∷ []) → ToldList n p 0 q
 unfolding returned replyWords

@@ -18,21 +18,21 @@ unfoldable pub returned : Outcome → ℕ
 returned (refusal number place) = number
 returned (answered a) = 0
 returned (listed es) = 0
-returned accepted = 0
+returned (accepted es) = 0
 
--- the list that goes into the buffer: the Withs of an answer, or the references of a name
+-- the list that goes into the buffer: the Withs of an answer, the references of a name, or what a change moved
 unfoldable pub listOf : Outcome → List ExprId
 listOf (refusal number place) = []
 listOf (answered a) = withList a
 listOf (listed es) = es
-listOf accepted = []
+listOf (accepted es) = es
 
 -- refusal, place, answer, its name or index, the length of the list: "What a call has none of is 0."
 unfoldable pub replyWords : Outcome → List ℕ
 replyWords (refusal number place) = number ∷ place ∷ 0 ∷ 0 ∷ 0 ∷ []
 replyWords (answered a) = 0 ∷ 0 ∷ numberOf a ∷ valueOf a ∷ length (withList a) ∷ []
 replyWords (listed es) = 0 ∷ 0 ∷ 0 ∷ 0 ∷ length es ∷ []
-replyWords accepted = 0 ∷ 0 ∷ 0 ∷ 0 ∷ 0 ∷ []
+replyWords (accepted es) = 0 ∷ 0 ∷ 0 ∷ 0 ∷ length es ∷ []
 
 -- the host's reply after the call: "one that is shorter is not written", and past its five words it is as it was
 unfoldable pub replyAfter : Outcome → List ℕ → List ℕ
@@ -45,12 +45,16 @@ bufferAfter o buffer = setAll buffer 0 (listOf o)
 -- what a load comes to
 unfoldable pub loadOutcome : Judged → Outcome
 loadOutcome (Judged.refused number place) = refusal number place
-loadOutcome (Judged.accepted nodes) = accepted
+loadOutcome (Judged.accepted nodes) = accepted []
 
 -- The outcome o was told: r was returned, and the reply p is q now.
 pub record Told (o : Outcome) (p : List ℕ) (r : ℕ) (q : List ℕ) : Type 0 where
   pub number : r ≡ returned o
   pub reply : q ≡ replyAfter o p
+
+-- that a call is accepted, and how many References it moved
+pub record ToldMoved (n : ℕ) (p : List ℕ) (r : ℕ) (q : List ℕ) : Type 0 where
+  pub says : (es : List ExprId) → length es ≡ n → Told (accepted es) p r q
 
 -- of a list of which only the length is known
 pub record ToldList (n : ℕ) (p : List ℕ) (r : ℕ) (q : List ℕ) : Type 0 where

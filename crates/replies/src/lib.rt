@@ -4,8 +4,8 @@
 ghost use mathlib.Core.Path.{_≡_};
 ghost use Prim.Native.Nat.{ℕ, _≤_, _<_};
 ghost use lib.ListN.{length};
-ghost use Rattle.spec.specs.Calls.{replyBytes, refusal, listed, accepted, answered};
-ghost use Rattle.replies.specs.Replies.{Told, ToldList, ToldAnswer};
+ghost use Rattle.spec.specs.Calls.{replyBytes, refusal};
+ghost use Rattle.replies.specs.Replies.{Told, ToldMoved, ToldList, ToldAnswer};
 use answer::Answer;
 use answer::answer_number;
 use answer::answer_value;
@@ -23,12 +23,12 @@ pub fn refuse(reply: &mut [u8], number: u32, place: u32) -> u32
     number
 }
 
-// A load, or a change: there is nothing to tell but that it is done.
-pub fn accept(reply: &mut [u8]) -> u32
+// A load, or a change, that is done: how many References it moved; they stand in the buffer. A load moves none.
+pub fn accept(reply: &mut [u8], count: u32) -> u32
     requires { ⌜ replyBytes ≤ length (now reply) ⌝ }
-    ensures { λ r. ⌜ Told accepted (now (reply .entry)) r (now (reply .exit)) ⌝ }
+    ensures { λ r. ⌜ ToldMoved count (now (reply .entry)) r (now (reply .exit)) ⌝ }
 {
-    put_five(reply, 0, 0, 0, 0, 0, 0);
+    put_five(reply, 0, 0, 0, 0, 0, count);
     0
 }
 

@@ -1,6 +1,6 @@
 -- The checks that every call begins with, and what each call was from what its steps did. Assumes nothing.
 use mathlib.Core.Path.{_≡_, refl, sym, ap, _∙_}
-use mathlib.Core.Bool.{Bool, true, false, not, or-true, or-false, and-false}
+use mathlib.Core.Bool.{Bool, true, false, or-true, or-false}
 use mathlib.Core.List.{List}
 use Prim.Native.Nat.{ℕ, _≤_, _<_}
 use native.Mathlib.Omega.{arith}
@@ -11,7 +11,7 @@ use Rattle.words.specs.Equality.{equalb}
 use Rattle.spec.specs.Basics.{if_then_else_}
 use Rattle.spec.specs.Lower.{moduleOf}
 use Rattle.spec.specs.Calls.{Condition, fit, Call, Outcome, refusal, replyBytes, check, replyOf, answerCall, outcome, isAccepted, oldText, newText}
-use Rattle.spec.specs.Kept.{keptAnswer, keptReferences, keptOutcome, keptWith, keptAfter}
+use Rattle.spec.specs.Kept.{keptAnswer, keptReferences, changed, keptMoved, keptOutcome, keptAfter}
 use Rattle.layout.specs.Rows.{setAll}
 use Rattle.layout.specs.States.{namesOf, stateOf, moduleIn}
 use Rattle.layout.specs.Regions.{changing}
@@ -43,7 +43,7 @@ unfolding outcomeIn keptOutcome outcome
 state-refused s c n h e z =
     rw (le-ltb (replyOf c) replyBytes h, or-false (conditionOf s .short))
     (first-checks (conditionOf s .short) (conditionOf s .unsound) (conditionOf s .unloaded) n
-    (answerCall (keptIn s .lowered) (keptAnswer (keptIn s)) (keptReferences (keptIn s)) (keptIn s .spent) c) e z)
+    (answerCall (keptIn s .lowered) (keptAnswer (keptIn s)) (keptReferences (keptIn s)) (keptIn s .spent) (keptMoved (keptIn s)) c) e z)
 
 -- nothing to refuse
 all-well : (a b d : Bool) → 0 ≡ numberOf (verdict (record { short = a; unsound = b; unloaded = d })) → _≡_ {A = Condition} (record { short = a; unsound = b; unloaded = d }) fit
@@ -58,7 +58,7 @@ state-fit s n e z = all-well (conditionOf s .short) (conditionOf s .unsound) (co
 
 -- what a fit store is left to be asked
 abbrev pub ownOutcome : List ℕ → Call → Outcome
-ownOutcome s c = answerCall (keptIn s .lowered) (keptAnswer (keptIn s)) (keptReferences (keptIn s)) (keptIn s .spent) c
+ownOutcome s c = answerCall (keptIn s .lowered) (keptAnswer (keptIn s)) (keptReferences (keptIn s)) (keptIn s .spent) (keptMoved (keptIn s)) c
 
 pub state-passed : (s : List ℕ) (c : Call) → conditionOf s ≡ fit → replyBytes ≤ replyOf c → outcomeIn s c ≡ ownOutcome s c
 unfolding outcomeIn keptOutcome outcome check
@@ -86,20 +86,29 @@ module _ (c : Call) (s : List ℕ) where
   leaves-same e = record { kept = e; refused = λ _. refl; equal = λ _. refl; sound = λ h. h; wrote = wrote-none changing s }
 
   pub refused-leaves : isAccepted (outcomeIn s c) ≡ false → Leaves c s s
-  unfolding outcomeIn keptAfter keptWith
+  unfolding outcomeIn keptAfter
   refused-leaves h = leaves-same (rw h)
 
   pub equal-leaves : equalb (oldText (keptIn s .lowered) c) (newText c) ≡ true → Leaves c s s
-  unfolding keptAfter keptWith
-  equal-leaves h = leaves-same (rw (h, and-false (isAccepted (keptOutcome (conditionOf s) (keptIn s) c))))
+  unfolding keptAfter changed
+  equal-leaves h = leaves-same (rw h (go (isAccepted (keptOutcome (conditionOf s) (keptIn s) c))))
+    where
+      go : (b : Bool) → keptIn s ≡ (if b then keptIn s else keptIn s)
+      go true = refl
+      go false = refl
 
-pub told-changed : (c : Call) (s p : List ℕ) (r : ℕ) (t p′ : List ℕ) (o : Outcome) → outcomeIn s c ≡ o → Told o p r p′ → Leaves c s t → Changed c s p r t p′
-told-changed c s p r t p′ o e x l =
-    record { number = x .number ∙ ap returned (sym e); reply = x .reply ∙ ap (λ (y : Outcome). replyAfter y p) (sym e); leaves = l }
+pub told-changed : (c : Call) (s b p : List ℕ) (r : ℕ) (t b′ p′ : List ℕ) (o : Outcome) → outcomeIn s c ≡ o → Told o p r p′ → b′ ≡ bufferAfter o b → Leaves c s t → Changed c s b p r t b′ p′
+told-changed c s b p r t b′ p′ o e x w l =
+    record {
+      number = x .number ∙ ap returned (sym e);
+      buffer = w ∙ ap (λ (y : Outcome). bufferAfter y b) (sym e);
+      reply = x .reply ∙ ap (λ (y : Outcome). replyAfter y p) (sym e);
+      leaves = l;
+    }
 
-pub refused-changed : (c : Call) (s p : List ℕ) (r : ℕ) (p′ : List ℕ) (k l : ℕ) → outcomeIn s c ≡ refusal k l → Told (refusal k l) p r p′ → Changed c s p r s p′
-unfolding isAccepted
-refused-changed c s p r p′ k l e t = told-changed c s p r s p′ (refusal k l) e t (refused-leaves c s (ap isAccepted e))
+pub refused-changed : (c : Call) (s b p : List ℕ) (r : ℕ) (p′ : List ℕ) (k l : ℕ) → outcomeIn s c ≡ refusal k l → Told (refusal k l) p r p′ → Changed c s b p r s b p′
+unfolding isAccepted bufferAfter listOf setAll
+refused-changed c s b p r p′ k l e t = told-changed c s b p r s b p′ (refusal k l) e t refl (refused-leaves c s (ap isAccepted e))
 
 -- ---- the first checks, as the code makes them
 pub begun-short : (s p : List ℕ) → length p < replyBytes → Begun s p 21 p
@@ -152,5 +161,5 @@ module _ {s p : List ℕ} {r : ℕ} {p′ : List ℕ} (begun : Begun s p r p′)
     pub stopped-asked : (b : List ℕ) → Asked c s b p r b p′
     stopped-asked b = refused-asked c s b p r b p′ r 0 refused-first refusal-told refl
 
-    pub stopped-changed : Changed c s p r s p′
-    stopped-changed = refused-changed c s p r p′ r 0 refused-first refusal-told
+    pub stopped-changed : (b : List ℕ) → Changed c s b p r s b p′
+    stopped-changed b = refused-changed c s b p r p′ r 0 refused-first refusal-told

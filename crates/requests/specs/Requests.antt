@@ -47,8 +47,10 @@ pub record Leaves (c : Call) (s t : List ℕ) : Type 0 where
   -- of its words at most those that a change may write are others
   pub wrote : Wrote changing s t
 
--- The call changed the store s, which is t now: r was returned, and the reply p is p′ now.
-pub record Changed (c : Call) (s p : List ℕ) (r : ℕ) (t p′ : List ℕ) : Type 0 where
+-- The call changed the store s, which is t now: r was returned, and what the host lent, the buffer b for what moved and
+-- the reply p, is b′ and p′ now.
+pub record Changed (c : Call) (s b p : List ℕ) (r : ℕ) (t b′ p′ : List ℕ) : Type 0 where
   pub number : r ≡ returned (outcomeIn s c)
+  pub buffer : b′ ≡ bufferAfter (outcomeIn s c) b
   pub reply : p′ ≡ replyAfter (outcomeIn s c) p
   pub leaves : Leaves c s t

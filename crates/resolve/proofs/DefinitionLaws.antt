@@ -20,13 +20,13 @@ module _ (textOf : ℕ → Text) (t : Text) where
   unfolding onlyWith
   none-there o e = rw (← e)
 
-  pub has-text : (o : Option ℕ) (x : ℕ) (u : Text) (b : Bool) → some x ≡ o → u ≡ textOf x → b ≡ equalb u t → b ≡ true → some x ≡ onlyWith textOf t o
+  pub has-text : (o : Option ℕ) (x : ℕ) (b : Bool) → some x ≡ o → b ≡ equalb (textOf x) t → b ≡ true → some x ≡ onlyWith textOf t o
   unfolding onlyWith
-  has-text o x u b e f g h = let y : equalb (textOf x) t ≡ true = rw (← f) (sym g ∙ h) in rw (← e, y)
+  has-text o x b e g h = let y : equalb (textOf x) t ≡ true = sym g ∙ h in rw (← e, y)
 
-  pub other-text : (o : Option ℕ) (x : ℕ) (u : Text) (b : Bool) → some x ≡ o → u ≡ textOf x → b ≡ equalb u t → b ≡ false → none ≡ onlyWith textOf t o
+  pub other-text : (o : Option ℕ) (x : ℕ) (b : Bool) → some x ≡ o → b ≡ equalb (textOf x) t → b ≡ false → none ≡ onlyWith textOf t o
   unfolding onlyWith
-  other-text o x u b e f g h = let y : equalb (textOf x) t ≡ false = rw (← f) (sym g ∙ h) in rw (← e, y)
+  other-text o x b e g h = let y : equalb (textOf x) t ≡ false = sym g ∙ h in rw (← e, y)
 
   -- ---- all of them
   last-more : (found : Option ℕ) (ys : List ℕ) (x : ℕ) → lastWith textOf t found (ys ++ (x ∷ [])) ≡ (if equalb (textOf x) t then some x else lastWith textOf t found ys)

@@ -1,9 +1,11 @@
 pub mod IdLaws
 pub mod ChainLaws
+pub mod SetNameLaws
 pub mod DefinitionLaws
 pub mod SearchLaws
 pub mod WithLaws
 pub mod NameLaws
 pub mod CountLaws
 pub mod WithListLaws
+pub mod NestingLaws
 pub mod ReferenceLaws

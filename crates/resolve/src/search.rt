@@ -1,9 +1,10 @@
-// The innermost definition of a text: an inner one hides an outer one of the same text.
+// The innermost definition of a text: an inner one hides an outer one of the same text. As in definitions.rt, one name,
+// x, is read as if it had the bytes `text`.
 ghost use mathlib.Core.Path.{_≡_};
 ghost use Rattle.spec.specs.Answer as answer;
 ghost use Rattle.spec.specs.Answer.{textOfName, chain};
+ghost use Rattle.spec.specs.Calls.{setName};
 ghost use Rattle.layout.specs.Layout.{Long};
-ghost use Rattle.layout.specs.Texts.{textIn};
 ghost use Rattle.layout.specs.States.{moduleIn};
 ghost use Rattle.layout.specs.Keeps.{scopesIn};
 ghost use Rattle.resolve.specs.Search.{foundOf, Looks};
@@ -15,7 +16,6 @@ use module::MaybeName;
 use module::MaybeScope;
 use module::NameId;
 use module::ScopeId;
-use module::TextId;
 
 // A definition, and the scope that has it.
 pub enum Found {
@@ -30,30 +30,30 @@ pub enum Step {
 }
 
 // What a With brings hides no definition, so that the search goes on outside of it.
-fn look(store: &[u8], s: ScopeId, left: u32, t: TextId) -> Step
+fn look(store: &[u8], s: ScopeId, left: u32, sought: &[u8], x: NameId, text: &[u8]) -> Step
     requires { ⌜ Long (now store) ⌝ }
-    ensures { λ r. ⌜ Looks (now (store .entry)) (textIn (now (store .entry)) (t .0)) (s .0) left r ⌝ }
+    ensures { λ r. ⌜ Looks (textOfName (setName (x .0) (now (text .entry)) (moduleIn (now (store .entry))))) (scopesIn (now (store .entry)) .scopes) (now (sought .entry)) (s .0) left r ⌝ }
 {
     let outside = outer(store, s, left);
     match scope_with(store, s) {
         MaybeExpr::Expr(_) => Step::On(outside),
-        MaybeExpr::Absent => match defined_in(store, s, t) {
-            MaybeName::Name(x) => Step::Here(x),
+        MaybeExpr::Absent => match defined_in(store, s, sought, x, text) {
+            MaybeName::Name(y) => Step::Here(y),
             MaybeName::Absent => Step::On(outside),
         },
     }
 }
 
-pub fn innermost(store: &[u8], s: ScopeId, t: TextId) -> Found
+pub fn innermost(store: &[u8], s: ScopeId, sought: &[u8], x: NameId, text: &[u8]) -> Found
     requires { ⌜ Long (now store) ⌝ }
-    ensures { λ r. ⌜ foundOf r ≡ answer.innermost (textOfName (moduleIn (now (store .entry)))) (scopesIn (now (store .entry)) .scopes) (textIn (now (store .entry)) (t .0)) (chain (scopesIn (now (store .entry)) .scopes) (s .0)) ⌝ }
+    ensures { λ r. ⌜ foundOf r ≡ answer.innermost (textOfName (setName (x .0) (now (text .entry)) (moduleIn (now (store .entry))))) (scopesIn (now (store .entry)) .scopes) (now (sought .entry)) (chain (scopesIn (now (store .entry)) .scopes) (s .0)) ⌝ }
 {
     let mut at = s.0;
     let mut left = s.0;
     loop {
-        match look(store, ScopeId(at), left, t) {
-            Step::Here(x) => {
-                return Found::In(ScopeId(at), x);
+        match look(store, ScopeId(at), left, sought, x, text) {
+            Step::Here(y) => {
+                return Found::In(ScopeId(at), y);
             }
             Step::On(next) => match next {
                 MaybeScope::Scope(p) => {

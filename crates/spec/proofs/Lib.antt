@@ -18,7 +18,7 @@ pub mod steps
 -- `finish-leaves`, `loads-forest`.
 pub mod sets
 -- What a changed text can move, and that what is kept stays what is worked out afresh, up to demand 3. Ends in
--- `answerAt-agree`, `reference-moves-itself`, `name-moves`, `stays-afresh`, `demand3`.
+-- `answerAt-agree`, `reference-moves-itself`, `place-stays`, `stays-afresh`, `call-moves`, `demand3`.
 pub mod change
 -- What is kept of a module is sound: every number in range, in order, and what it is said to be. Ends in
 -- `lowered-ordered`, `lowered-walk-step`, `loaded-sound`, `after-sound`, `lowered-inherits`, `operators-in`.

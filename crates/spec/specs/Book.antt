@@ -5,8 +5,10 @@ use mathlib.Core.List.{List, [], _∷_}
 use Prim.Native.Nat.{ℕ}
 use Rattle.spec.specs.Module.{Module}
 use Rattle.spec.specs.Scopes.{Scopes, scopesOf}
+use Rattle.spec.specs.Basics.{ExprId}
 use Rattle.spec.specs.Answer.{answer, references}
 use Rattle.spec.specs.Calls.{fit, Call, Outcome, isAccepted, withText, spentBy, outcome}
+use Rattle.spec.specs.Moved.{differing}
 
 pub record Book : Type 0 where
   pub lowered : Module
@@ -18,10 +20,15 @@ pub record Book : Type 0 where
 unfoldable pub bookOf : Module → Book
 bookOf m = record { lowered = m; scopes = scopesOf m; spent = 0 }
 
+-- what a change would move: where the answers afresh are others with its text
+unfoldable pub bookMoved : Book → Call → List ExprId
+bookMoved b c = differing (b .lowered) (answer (b .lowered) (b .scopes)) (answer (withText (b .lowered) c) (b .scopes))
+
 -- "The checks, put to it, refuse or accept; a short store, 22 and 23 never come up." The answers are those worked out
 -- afresh.
 unfoldable pub bookOutcome : Book → Call → Outcome
-bookOutcome b c = outcome (b .lowered) (answer (b .lowered) (b .scopes)) (references (b .lowered) (b .scopes)) (b .spent) fit c
+bookOutcome b c =
+    outcome (b .lowered) (answer (b .lowered) (b .scopes)) (references (b .lowered) (b .scopes)) (b .spent) (bookMoved b) fit c
 
 -- "An accepted change sets its text in the book and spends room as 27 says; refused calls and askings alter nothing."
 unfoldable pub bookWith : Book → Call → Bool → Book

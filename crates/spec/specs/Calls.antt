@@ -14,20 +14,21 @@ use Rattle.spec.specs.Tree.{judge}
 use Rattle.spec.specs.Scopes.{madeAt, exprAt, nameAt}
 use Rattle.spec.specs.Answer.{Answer, unresolved, definition, builtin, withs, referenceText}
 
--- A call: its number, and its text or the length of its buffer in bytes; then the length of the host's reply in bytes.
+-- A call: its number; the text of a change; the length of its buffer in bytes, which a change fills with what it moved;
+-- then the length of the host's reply in bytes.
 pub data Call : Type 0 where
   askReference : ℕ → ℕ → ℕ → Call
   askName : ℕ → ℕ → ℕ → Call
-  changeReference : ℕ → Text → ℕ → Call
-  changeName : ℕ → Text → ℕ → Call
+  changeReference : ℕ → Text → ℕ → ℕ → Call
+  changeName : ℕ → Text → ℕ → ℕ → Call
 
 -- What a call comes to: a refusal, its number and place; the answer of a Reference, whose list is that of its Withs;
--- the kept references of a name; or that the text is set.
+-- the kept references of a name; or that the text is set, and the References whose answer is another then.
 pub data Outcome : Type 0 where
   refusal : ℕ → ℕ → Outcome
   answered : Answer → Outcome
   listed : List ExprId → Outcome
-  accepted : Outcome
+  accepted : List ExprId → Outcome
 
 -- docs/STORE.md: five words
 abbrev pub replyBytes : ℕ
@@ -109,21 +110,21 @@ spentAt m t spent (p ∷ ps) = spentAt m t (if equalb (textAt m p) t then spent 
 abbrev pub placesOf : Call → List Place
 placesOf (askReference n buffer reply) = []
 placesOf (askName n buffer reply) = []
-placesOf (changeReference n t reply) = atReference n ∷ []
-placesOf (changeName n t reply) = atName n ∷ []
+placesOf (changeReference n t buffer reply) = atReference n ∷ []
+placesOf (changeName n t buffer reply) = atName n ∷ []
 
 -- the text that a change sets, and what it was
 unfoldable pub newText : Call → Text
 newText (askReference n buffer reply) = []
 newText (askName n buffer reply) = []
-newText (changeReference n t reply) = t
-newText (changeName n t reply) = t
+newText (changeReference n t buffer reply) = t
+newText (changeName n t buffer reply) = t
 
 unfoldable pub oldText : Module → Call → Text
 oldText m (askReference n buffer reply) = []
 oldText m (askName n buffer reply) = []
-oldText m (changeReference n t reply) = textAt m (atReference n)
-oldText m (changeName n t reply) = textAt m (atName n)
+oldText m (changeReference n t buffer reply) = textAt m (atReference n)
+oldText m (changeName n t buffer reply) = textAt m (atName n)
 
 unfoldable pub withText : Module → Call → Module
 withText m c = setPlaces (newText c) (placesOf c) m
@@ -132,7 +133,7 @@ withText m c = setPlaces (newText c) (placesOf c) m
 unfoldable pub spentBy : Module → ℕ → Call → ℕ
 spentBy m spent c = spentAt m (newText c) spent (placesOf c)
 
--- ---- the checks: "Other calls check 21 to 25, then 8, then 26 or 27."
+-- ---- the checks: "Other calls check 21 to 25, then 8, then 26 or 27", and a change 34 after it.
 unfoldable pub check : Bool → ℕ → ℕ → Outcome → Outcome
 check true number place rest = refusal number place
 check false number place rest = rest
@@ -140,12 +141,18 @@ check false number place rest = rest
 unfoldable pub replyOf : Call → ℕ
 replyOf (askReference n buffer reply) = reply
 replyOf (askName n buffer reply) = reply
-replyOf (changeReference n t reply) = reply
-replyOf (changeName n t reply) = reply
+replyOf (changeReference n t buffer reply) = reply
+replyOf (changeName n t buffer reply) = reply
 
--- The module, what a Reference is answered, what a name's references are, and the room spent: kept by a store, or
--- worked out afresh by the book.
-module _ (m : Module) (answerOf : ExprId → Option Answer) (referencesOf : NameId → List ExprId) (spent : ℕ) where
+unfoldable pub bufferOf : Call → ℕ
+bufferOf (askReference n buffer reply) = buffer
+bufferOf (askName n buffer reply) = buffer
+bufferOf (changeReference n t buffer reply) = buffer
+bufferOf (changeName n t buffer reply) = buffer
+
+-- The module, what a Reference is answered, what a name's references are, the room spent, and which References a change
+-- moves: kept by a store, or worked out afresh by the book.
+module _ (m : Module) (answerOf : ExprId → Option Answer) (referencesOf : NameId → List ExprId) (spent : ℕ) (movedBy : Call → List ExprId) where
   -- 26: the list has to fit the buffer
   unfoldable pub inBuffer : ℕ → List ExprId → Outcome → Outcome
   inBuffer buffer es = check (ltb buffer (4 * length es)) 26 (length es)
@@ -154,9 +161,13 @@ module _ (m : Module) (answerOf : ExprId → Option Answer) (referencesOf : Name
   giveAnswer n buffer none = refusal 25 n
   giveAnswer n buffer (some a) = inBuffer buffer (withList a) (answered a)
 
+  -- 34: what moved has to fit its buffer
+  unfoldable pub giveMoved : Call → Outcome
+  giveMoved c = check (ltb (bufferOf c) (4 * length (movedBy c))) 34 (length (movedBy c)) (accepted (movedBy c))
+
   -- 27: "never for an equal text"
   unfoldable pub inRoom : Call → Outcome
-  inRoom c = check (not (equalb (oldText m c) (newText c)) && ltb 8192 (spent + length (newText c))) 27 0 accepted
+  inRoom c = check (not (equalb (oldText m c) (newText c)) && ltb 8192 (spent + length (newText c))) 27 0 (giveMoved c)
 
   -- 8, which comes before the comparison with the old text
   unfoldable pub giveText : Call → Outcome
@@ -170,9 +181,9 @@ module _ (m : Module) (answerOf : ExprId → Option Answer) (referencesOf : Name
   unfoldable pub answerCall : Call → Outcome
   answerCall (askReference n buffer reply) = check (leb (length (m .exprs)) n) 24 n (giveAnswer n buffer (answerOf n))
   answerCall (askName n buffer reply) = check (leb (length (m .names)) n) 24 n (inBuffer buffer (referencesOf n) (listed (referencesOf n)))
-  answerCall (changeReference n t reply) =
-      check (leb (length (m .exprs)) n) 24 n (ifReference n (referenceText (exprAt m n)) (giveText (changeReference n t reply)))
-  answerCall (changeName n t reply) = check (leb (length (m .names)) n) 24 n (giveText (changeName n t reply))
+  answerCall (changeReference n t buffer reply) =
+      check (leb (length (m .exprs)) n) 24 n (ifReference n (referenceText (exprAt m n)) (giveText (changeReference n t buffer reply)))
+  answerCall (changeName n t buffer reply) = check (leb (length (m .names)) n) 24 n (giveText (changeName n t buffer reply))
 
   unfoldable pub outcome : Condition → Call → Outcome
   outcome store c =
@@ -186,4 +197,11 @@ unfoldable pub isAccepted : Outcome → Bool
 isAccepted (refusal number place) = false
 isAccepted (answered a) = false
 isAccepted (listed es) = false
-isAccepted accepted = true
+isAccepted (accepted es) = true
+
+-- the References that a call moved, as it tells them
+unfoldable pub movedOf : Outcome → List ExprId
+movedOf (refusal number place) = []
+movedOf (answered a) = []
+movedOf (listed es) = []
+movedOf (accepted es) = es

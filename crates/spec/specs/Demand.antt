@@ -3,21 +3,21 @@
 -- their promises, and in the crate lang_ast (proofs/Calls.antt) of the exported calls.
 use mathlib.Core.Path.{_≡_}
 use mathlib.Core.Logic.{_≢_}
-use mathlib.Core.Bool.{Bool, true, false, _||_}
+use mathlib.Core.Bool.{Bool, true, false}
 use mathlib.Core.List.{List, [], _∷_, map}
-use mathlib.Core.Option.{Option, none, some}
-use Prim.Native.Nat.{ℕ, _<_}
+use Prim.Native.Nat.{ℕ, _<_, _≤_}
 use lib.ListN.{length}
 use Rattle.spec.specs.Basics.{ExprId, NameId, ScopeId}
 use Rattle.spec.specs.Sheet.{Node, Judged}
 use Rattle.spec.specs.Tree.{judge}
 use Rattle.spec.specs.Module.{Module}
 use Rattle.spec.specs.Lower.{lowerModule}
-use Rattle.spec.specs.Scopes.{Scopes, exprAt, isIn, holds, holder, scopesOf}
-use Rattle.spec.specs.Answer.{chain, referenceText, scopeAt, scopeOfExpr}
-use Rattle.spec.specs.Calls.{Condition, fit, Call, askReference, askName, changeReference, changeName, Outcome, isAccepted, oldText, newText}
+use Rattle.spec.specs.Scopes.{Scopes, holds, scopesOf}
+use Rattle.spec.specs.Answer.{scopeAt}
+use Rattle.spec.specs.Calls.{Condition, fit, Call, askReference, askName, changeReference, changeName, Outcome, isAccepted, movedOf, oldText, newText, atName, atReference}
+use Rattle.spec.specs.Moved.{passing, differing, mayMove}
 use Rattle.spec.specs.Book.{Book, bookOf, bookOutcome, bookAfter, bookOutcomes, bookAfterAll}
-use Rattle.spec.specs.Kept.{Kept, keptOf, keptAnswer, keptOutcome, keptAfter, bears, loaded, answersAfresh, referencesAfresh}
+use Rattle.spec.specs.Kept.{Kept, keptOf, keptAnswer, keptOutcome, keptAfter, loaded, answersAfresh, referencesAfresh}
 
 -- ---- what a call may move
 -- "A name is held by the scope it is entered in": no name is held by two
@@ -26,31 +26,32 @@ HeldOnce w =
     (x : NameId) (s s′ : ScopeId) → s < length (w .scopes) → s′ < length (w .scopes)
     → holds x (scopeAt (w .scopes) s .kind) ≡ true → holds x (scopeAt (w .scopes) s′ .kind) ≡ true → s ≡ s′
 
--- "whose scope is the name's scope or inside it": the name's scope is in the chain of the Reference's; "a name held by
--- no scope moves none"
-unfoldable pub within : Scopes → Option ScopeId → Option ScopeId → Bool
-within w none s = false
-within w (some held) none = false
-within w (some held) (some s) = isIn held (chain (w .scopes) s)
-
 -- whether the call may leave a Reference another answer
-unfoldable pub mayMove : Kept → Call → ExprId → Type 0
+unfoldable pub callMayMove : Kept → Call → ExprId → Bool
 -- "an asking moves none"
-mayMove k (askReference n buffer reply) e = ⊥
-mayMove k (askName n buffer reply) e = ⊥
--- "A changed reference moves its own answer only."
-mayMove k (changeReference n t reply) e = e ≡ n
--- "A changed name moves only references that bear its old or new text and whose scope is the name's scope or inside it"
-mayMove k (changeName x t reply) e =
-    (bears (oldText (k .lowered) (changeName x t reply)) (referenceText (exprAt (k .lowered) e)) || bears t (referenceText (exprAt (k .lowered) e)) ≡ true)
-    × (within (k .scopes) (holder (k .scopes) x) (scopeOfExpr (k .scopes) e) ≡ true)
+callMayMove k (askReference n buffer reply) e = false
+callMayMove k (askName n buffer reply) e = false
+callMayMove k (changeReference n t buffer reply) e = mayMove (k .lowered) (k .scopes) (atReference n) t e
+callMayMove k (changeName x t buffer reply) e = mayMove (k .lowered) (k .scopes) (atName x) t e
+
+-- how many it moves at most: "For a changed name the count is at most the number of references with the old or new text
+-- whose scope is the name's scope or inside it, and for a changed reference at most one."
+unfoldable pub mostMoved : Kept → Call → ℕ
+mostMoved k (askReference n buffer reply) = 0
+mostMoved k (askName n buffer reply) = 0
+mostMoved k (changeReference n t buffer reply) = 1
+mostMoved k (changeName x t buffer reply) = length (passing (mayMove (k .lowered) (k .scopes) (atName x) t) 0 (k .lowered .exprs))
 
 -- what one call moved. "An answer moves if a call leaves its 0–3, name, index or With list different."
 pub record Moves (before : Kept) (c : Call) (o : Outcome) (after : Kept) : Type 0 where
-  pub only : (e : ExprId) → keptAnswer before e ≢ keptAnswer after e → mayMove before c e
+  pub only : (e : ExprId) → keptAnswer before e ≢ keptAnswer after e → callMayMove before c e ≡ true
   -- "A refused call, an equal text or an asking moves none."
   pub refused : isAccepted o ≡ false → (e : ExprId) → keptAnswer before e ≡ keptAnswer after e
   pub equal : oldText (before .lowered) c ≡ newText c → (e : ExprId) → keptAnswer before e ≡ keptAnswer after e
+  -- the list that a change tells: "exactly those whose answer differs, ascending", none "for a refused change or an
+  -- equal text"
+  pub list : movedOf o ≡ differing (before .lowered) (keptAnswer before) (keptAnswer after)
+  pub few : length (movedOf o) ≤ mostMoved before c
 
 -- ---- A host's store, with what it keeps and how a call finds it.
 module _ (Store : Type 0) (kept : Store → Kept) (condition : Store → Condition) where

@@ -1,9 +1,8 @@
 -- docs/RULES.md, "Kept answers and references": what a store keeps, the module and its scopes, and beside them every
 -- Reference's answer and every name's references, so that asking need not search. What a load leaves, and what a call
 -- makes of a store, whoever made it.
-use mathlib.Core.Bool.{Bool, true, false, _||_, _&&_, not}
 use mathlib.Core.List.{List, [], _∷_}
-use mathlib.Core.Option.{Option, none, some}
+use mathlib.Core.Option.{Option, none}
 use Prim.Native.Nat.{ℕ, suc}
 use lib.ListN.{getD}
 use Rattle.words.specs.Equality.{equalb}
@@ -11,9 +10,10 @@ use Rattle.spec.specs.Basics.{Text, ExprId, NameId, if_then_else_}
 use Rattle.spec.specs.Module.{Module}
 use Rattle.spec.specs.Sheet.{Node}
 use Rattle.spec.specs.Lower.{lowerModule}
-use Rattle.spec.specs.Scopes.{Scopes, exprAt, scopesOf}
-use Rattle.spec.specs.Answer.{Answer, answer, means, references, referenceText}
-use Rattle.spec.specs.Calls.{Condition, Call, Outcome, isAccepted, oldText, newText, withText, spentBy, outcome}
+use Rattle.spec.specs.Scopes.{Scopes, scopesOf}
+use Rattle.spec.specs.Answer.{Answer, answer, means, references}
+use Rattle.spec.specs.Calls.{Condition, Call, askReference, askName, changeReference, changeName, Outcome, isAccepted, oldText, newText, Place, atName, atReference, setPlace, spentAt, outcome}
+use Rattle.spec.specs.Moved.{differing, mayMove}
 
 pub record Kept : Type 0 where
   pub lowered : Module
@@ -52,41 +52,53 @@ keptAnswer k e = getD (k .answers) e none
 unfoldable pub keptReferences : Kept → NameId → List ExprId
 keptReferences k x = getD (k .references) x []
 
-unfoldable pub keptOutcome : Condition → Kept → Call → Outcome
-keptOutcome store k c = outcome (k .lowered) (keptAnswer k) (keptReferences k) (k .spent) store c
+-- ---- changing: the text is set; References whose answer it may move are resolved again, the others keep theirs
+unfoldable pub resolvedAgain : Kept → Place → Text → ExprId → Option Answer
+resolvedAgain k p t e =
+    if mayMove (k .lowered) (k .scopes) p t e then answer (setPlace t p (k .lowered)) (k .scopes) e else keptAnswer k e
 
--- ---- changing: the text is set, References that bear the old or the new text are resolved again, the others keep
--- their answers
-unfoldable pub bears : Text → Option Text → Bool
-bears t none = false
-bears t (some u) = equalb t u
-
-unfoldable pub resolvedAgain : Module → Scopes → (ExprId → Option Answer) → Text → Text → ExprId → Option Answer
-resolvedAgain m w before old new e =
-    let t = referenceText (exprAt m e) in
-    if bears old t || bears new t then answer m w e else before e
+-- the References that the text moves
+unfoldable pub movedBy : Kept → Place → Text → List ExprId
+movedBy k p t = differing (k .lowered) (keptAnswer k) (resolvedAgain k p t)
 
 -- the expressions among those from e on that are answered with the name
 unfoldable pub answeredWith : NameId → ExprId → List (Option Answer) → List ExprId
 answeredWith x e [] = []
 answeredWith x e (a ∷ as′) = if means x a then e ∷ answeredWith x (suc e) as′ else answeredWith x (suc e) as′
 
-unfoldable pub changedTo : Kept → Module → Text → Text → ℕ → Kept
-changedTo k m old new spent =
-    let as′ = tabulate (resolvedAgain m (k .scopes) (keptAnswer k) old new) 0 (m .exprs) in
+-- the references of every name, listed anew from the answers where something moved
+unfoldable pub listedAgain : Kept → List (Option Answer) → List ExprId → List (List ExprId)
+listedAgain k as′ [] = k .references
+listedAgain k as′ (e ∷ es) = tabulate (λ x. answeredWith x 0 as′) 0 (k .lowered .names)
+
+unfoldable pub changedTo : Kept → Place → Text → Kept
+changedTo k p t =
+    let as′ = tabulate (resolvedAgain k p t) 0 (k .lowered .exprs) in
     record {
-      lowered = m;
+      lowered = setPlace t p (k .lowered);
       scopes = k .scopes;
       answers = as′;
-      references = tabulate (λ x. answeredWith x 0 as′) 0 (m .names);
-      spent = spent;
+      references = listedAgain k as′ (movedBy k p t);
+      spent = spentAt (k .lowered) t (k .spent) (p ∷ []);
     }
 
--- an equal text leaves everything as it is
-unfoldable pub keptWith : Kept → Call → Bool → Kept
-keptWith k c true =
-    changedTo k (withText (k .lowered) c) (oldText (k .lowered) c) (newText c) (spentBy (k .lowered) (k .spent) c)
-keptWith k c false = k
+unfoldable pub keptWith : Kept → Call → Kept
+keptWith k (askReference n buffer reply) = k
+keptWith k (askName n buffer reply) = k
+keptWith k (changeReference n t buffer reply) = changedTo k (atReference n) t
+keptWith k (changeName n t buffer reply) = changedTo k (atName n) t
+
+-- what an accepted call leaves: an equal text, and an asking, leave everything as it is
+unfoldable pub changed : Kept → Call → Kept
+changed k c = if equalb (oldText (k .lowered) c) (newText c) then k else keptWith k c
+
+-- ---- a call
+-- the References whose kept answer is another then
+unfoldable pub keptMoved : Kept → Call → List ExprId
+keptMoved k c = differing (k .lowered) (keptAnswer k) (keptAnswer (changed k c))
+
+unfoldable pub keptOutcome : Condition → Kept → Call → Outcome
+keptOutcome store k c = outcome (k .lowered) (keptAnswer k) (keptReferences k) (k .spent) (keptMoved k) store c
 
 unfoldable pub keptAfter : Condition → Kept → Call → Kept
-keptAfter store k c = keptWith k c (isAccepted (keptOutcome store k c) && not (equalb (oldText (k .lowered) c) (newText c)))
+keptAfter store k c = if isAccepted (keptOutcome store k c) then changed k c else k

@@ -11,6 +11,7 @@ pub mod Lower
 pub mod Scopes
 pub mod Answer
 pub mod Calls
+pub mod Moved
 pub mod Book
 pub mod Kept
 pub mod Demand

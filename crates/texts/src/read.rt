@@ -16,14 +16,14 @@ use words::equal_to;
 use words::get32;
 
 // Where the bytes of a text lie in the store.
-struct TextSpan {
-    at: usize,
-    len: usize,
+pub struct TextSpan {
+    pub at: usize,
+    pub len: usize,
 }
 
 // What does not lie within the bytes in use has no bytes. The test is the one of held.rt, so that there is one reading
-// of what is in use.
-fn text_span(store: &[u8], t: TextId) -> TextSpan
+// of what is in use. Whoever compares one text with many lends these bytes and finds their place once.
+pub fn text_span(store: &[u8], t: TextId) -> TextSpan
     requires { ⌜ Long (now store) ⌝ }
     ensures { λ r. ⌜ Lies (now (store .entry)) (t .0) (r .at) (r .len) ⌝ }
 {

@@ -4,9 +4,10 @@
 //
 // A vector is a line with its title; `sheet=`, the number of the sheet's bytes, and these; `calls=`, their number, and
 // these. A call is four lines: `call=` (0 asks about a Reference, 1 about a name, 2 changes a Reference, 3 a name),
-// `number=`, `lent=` (the bytes of the buffer, or of the new text) and `reply=` (the bytes of the reply); a text
-// follows them, and a line end after it. The first line of the list says what wrote it. It and the titles are read
-// through the Reader, since they are lines of no form; a line with a number is judged as it is read.
+// `number=`, `lent=` (the bytes of the buffer, or of the new text) and `reply=` (the bytes of the reply). A change has
+// a line before the last, `moved=` (the bytes of the buffer for what it moves), and behind them its text and a line
+// end. The first line of the list says what wrote it. It and the titles are read through the Reader, since they are
+// lines of no form; a line with a number is judged as it is read.
 ghost use Prim.Native.Nat.{_≤_};
 use ask::ask_name;
 use ask::ask_reference;
@@ -111,30 +112,61 @@ fn ask_about_name(store: &[u8], number: u32, lent: u32, told: u32) {
     print_uses(&buffer, reply_word(&reply, 16));
 }
 
-fn change(store: &mut [u8; STORE_BYTES], kind: u32, number: u32, text: &[u8], told: u32) {
+// The References that a change moved.
+fn print_moved(buffer: &[u8; 16384], count: u32) {
+    print_list(b"moved=", buffer, count);
+}
+
+fn change(
+    store: &mut [u8; STORE_BYTES],
+    kind: u32,
+    number: u32,
+    text: &[u8],
+    lent: u32,
+    told: u32,
+) {
+    let mut moved = [0u8; 16384];
     let mut reply = [0u8; 32];
+    let lent = within(lent, 16384);
     let told = within(told, 32);
     let refused = if kind == 2 {
-        change_reference(store, number, text, &mut reply[0..told])
+        change_reference(
+            store,
+            number,
+            text,
+            &mut moved[0..lent],
+            &mut reply[0..told],
+        )
     } else {
-        change_name(store, number, text, &mut reply[0..told])
+        change_name(
+            store,
+            number,
+            text,
+            &mut moved[0..lent],
+            &mut reply[0..told],
+        )
     };
     if told_refused(refused, &reply) {
         return;
     }
-    io::write_all(STDOUT_FILENO, b"accepted\n");
+    print_moved(&moved, reply_word(&reply, 16));
 }
 
-// The text of a change stands behind its lines; gives the place after it.
+// A change, from its line `moved=` on; its text stands behind its lines. Gives the place after it.
 fn run_change(
     list: &[u8],
     at: usize,
     kind: u32,
     number: u32,
     bytes: u32,
-    told: u32,
     store: &mut [u8; STORE_BYTES],
 ) -> usize {
+    let Number::Is(lent, at) = number_at(list, at, b"moved=", 16384) else {
+        return broken(list);
+    };
+    let Number::Is(told, at) = number_at(list, at, b"reply=", 32) else {
+        return broken(list);
+    };
     let bytes = bytes as usize;
     if list.len() < at {
         return broken(list);
@@ -143,8 +175,25 @@ fn run_change(
         return broken(list);
     }
     let end = at + bytes;
-    change(store, kind, number, &list[at..end], told);
+    change(store, kind, number, &list[at..end], lent, told);
     end + 1
+}
+
+// An asking, from its line `reply=` on; gives the place after it.
+fn run_asking(list: &[u8], at: usize, kind: u32, number: u32, lent: u32, store: &[u8]) -> usize {
+    let Number::Is(told, at) = number_at(list, at, b"reply=", 32) else {
+        return broken(list);
+    };
+    match kind {
+        0 => {
+            ask_about_reference(store, number, lent, told);
+            at
+        }
+        _ => {
+            ask_about_name(store, number, lent, told);
+            at
+        }
+    }
 }
 
 // One call; gives the place after it.
@@ -158,19 +207,10 @@ fn run_call(list: &[u8], at: usize, store: &mut [u8; STORE_BYTES]) -> usize {
     let Number::Is(lent, at) = number_at(list, at, b"lent=", 16384) else {
         return broken(list);
     };
-    let Number::Is(told, at) = number_at(list, at, b"reply=", 32) else {
-        return broken(list);
-    };
     match kind {
-        0 => {
-            ask_about_reference(store, number, lent, told);
-            at
-        }
-        1 => {
-            ask_about_name(store, number, lent, told);
-            at
-        }
-        _ => run_change(list, at, kind, number, lent, told, store),
+        0 => run_asking(list, at, kind, number, lent, store),
+        1 => run_asking(list, at, kind, number, lent, store),
+        _ => run_change(list, at, kind, number, lent, store),
     }
 }
 

@@ -37,7 +37,7 @@ extern "C" {
 #define LANG_AST_TEXT_LIMIT 255
 #define LANG_AST_CHANGE_ROOM 8192
 
-/* A buffer of so many bytes is never too short. */
+/* A buffer of so many bytes is never too short, for an asking or a change. */
 #define LANG_AST_BUFFER_BYTES 65536
 
 /* A word, of a store, a reply or a buffer: the number in the four bytes from bytes[at] on, lowest first. */
@@ -94,6 +94,7 @@ static inline uint32_t lang_ast_word(const uint8_t *bytes, size_t at) {
 #define LANG_AST_WRONG_FLAG 31       /* a flag that its kind does not have: the line's first byte */
 #define LANG_AST_WRONG_TEXT 32       /* a text that its kind, with its flag, does not have: the line's first byte */
 #define LANG_AST_WRONG_RANGE 33      /* `from` above `to`, or one of them too large: the line's first byte */
+#define LANG_AST_MOVED_BUFFER_TOO_SHORT 34 /* how many References a change moves: four bytes for each are wanted */
 
 /* Loads a sheet into the store, which may hold anything before. */
 uint32_t lang_ast_load(const uint8_t *sheet, size_t sheet_length, uint8_t *store, size_t store_length, uint8_t *reply,
@@ -108,14 +109,16 @@ uint32_t lang_ast_ask_name(const uint8_t *store, size_t store_length, uint32_t n
                            uint8_t *reply, size_t reply_length);
 
 /* Sets the text of the Reference with this expression number. Afterwards all answers are those of the file with the
- * new text. */
+ * new text. The References whose answer is another than before, at most this one, are listed in `moved`, and
+ * LANG_AST_REPLY_LENGTH of the reply says how many they are. */
 uint32_t lang_ast_change_reference(uint8_t *store, size_t store_length, uint32_t number, const uint8_t *text, size_t text_length,
-                                   uint8_t *reply, size_t reply_length);
+                                   uint8_t *moved, size_t moved_length, uint8_t *reply, size_t reply_length);
 
 /* Sets the text of the name with this number, and of no Reference. Afterwards all answers are those of the file with
- * the new text. */
+ * the new text. The References whose answer is another than before are listed in `moved`, ascending, and
+ * LANG_AST_REPLY_LENGTH of the reply says how many they are. */
 uint32_t lang_ast_change_name(uint8_t *store, size_t store_length, uint32_t number, const uint8_t *text, size_t text_length,
-                              uint8_t *reply, size_t reply_length);
+                              uint8_t *moved, size_t moved_length, uint8_t *reply, size_t reply_length);
 
 #ifdef __cplusplus
 }

@@ -14,8 +14,8 @@ mod archive {
         pub fn lang_ast_load(sheet: *const u8, sheet_length: usize, store: *mut u8, store_length: usize, reply: *mut u8, reply_length: usize) -> u32;
         pub fn lang_ast_ask_reference(store: *const u8, store_length: usize, number: u32, buffer: *mut u8, buffer_length: usize, reply: *mut u8, reply_length: usize) -> u32;
         pub fn lang_ast_ask_name(store: *const u8, store_length: usize, number: u32, buffer: *mut u8, buffer_length: usize, reply: *mut u8, reply_length: usize) -> u32;
-        pub fn lang_ast_change_reference(store: *mut u8, store_length: usize, number: u32, text: *const u8, text_length: usize, reply: *mut u8, reply_length: usize) -> u32;
-        pub fn lang_ast_change_name(store: *mut u8, store_length: usize, number: u32, text: *const u8, text_length: usize, reply: *mut u8, reply_length: usize) -> u32;
+        pub fn lang_ast_change_reference(store: *mut u8, store_length: usize, number: u32, text: *const u8, text_length: usize, moved: *mut u8, moved_length: usize, reply: *mut u8, reply_length: usize) -> u32;
+        pub fn lang_ast_change_name(store: *mut u8, store_length: usize, number: u32, text: *const u8, text_length: usize, moved: *mut u8, moved_length: usize, reply: *mut u8, reply_length: usize) -> u32;
     }
 }
 
@@ -44,20 +44,24 @@ pub fn ask_name(store: &[u8], number: u32, buffer: &mut [u8], reply: &mut [u8]) 
     unsafe { archive::lang_ast_ask_name(store, store_length, number, buffer, buffer_length, reply.as_mut_ptr(), reply.len()) }
 }
 
-/// Sets the text of a Reference. The refusal's number, 0 for none.
-pub fn change_reference(store: &mut [u8], number: u32, text: &[u8], reply: &mut [u8]) -> u32 {
+/// Sets the text of a Reference, and lists what that moved. The refusal's number, 0 for none.
+pub fn change_reference(store: &mut [u8], number: u32, text: &[u8], moved: &mut [u8], reply: &mut [u8]) -> u32 {
     let (store, store_length) = (store.as_mut_ptr(), store.len());
     let (text, text_length) = (text.as_ptr(), text.len());
-    // SAFETY: as for `load`. The text is another slice than the store, since the store is borrowed mutably.
-    unsafe { archive::lang_ast_change_reference(store, store_length, number, text, text_length, reply.as_mut_ptr(), reply.len()) }
+    let (moved, moved_length) = (moved.as_mut_ptr(), moved.len());
+    let (reply, reply_length) = (reply.as_mut_ptr(), reply.len());
+    // SAFETY: as for `load`. The text is another slice than those that are written, since they are borrowed mutably.
+    unsafe { archive::lang_ast_change_reference(store, store_length, number, text, text_length, moved, moved_length, reply, reply_length) }
 }
 
-/// Sets the text of a name. The refusal's number, 0 for none.
-pub fn change_name(store: &mut [u8], number: u32, text: &[u8], reply: &mut [u8]) -> u32 {
+/// Sets the text of a name, and lists what that moved. The refusal's number, 0 for none.
+pub fn change_name(store: &mut [u8], number: u32, text: &[u8], moved: &mut [u8], reply: &mut [u8]) -> u32 {
     let (store, store_length) = (store.as_mut_ptr(), store.len());
     let (text, text_length) = (text.as_ptr(), text.len());
-    // SAFETY: as for `load`. The text is another slice than the store, since the store is borrowed mutably.
-    unsafe { archive::lang_ast_change_name(store, store_length, number, text, text_length, reply.as_mut_ptr(), reply.len()) }
+    let (moved, moved_length) = (moved.as_mut_ptr(), moved.len());
+    let (reply, reply_length) = (reply.as_mut_ptr(), reply.len());
+    // SAFETY: as for `load`. The text is another slice than those that are written, since they are borrowed mutably.
+    unsafe { archive::lang_ast_change_name(store, store_length, number, text, text_length, moved, moved_length, reply, reply_length) }
 }
 
 #[cfg(test)]
@@ -80,6 +84,25 @@ mod tests {
         assert_eq!(buffer, [7; 3]);
     }
 
+    /// What the library does not let its callers see: 34 leaves store and buffer as they were, and four bytes for each
+    /// number are enough.
+    #[test]
+    fn a_change_in_a_buffer_that_is_too_short_is_refused() {
+        let (mut store, mut reply) = (vec![0; STORE_BYTES], [7; REPLY_BYTES]);
+        assert_eq!(load(include_bytes!("../../../examples/definition-before-with.sheet"), &mut store, &mut reply), 0);
+        let (before, mut moved) = (store.clone(), [7; 9]);
+        for length in [0, 4, 7] {
+            assert_eq!(change_name(&mut store, 0, b"z", &mut moved[..length], &mut reply), 34);
+            assert_eq!(reply, [34, 0, 0, 0, 2, 0, 0, 0, 0, 0, 0, 0, 0, 0, 0, 0, 0, 0, 0, 0]);
+            assert!(store == before && moved == [7; 9], "{length}");
+        }
+        assert_eq!(change_name(&mut store, 0, b"y", &mut [], &mut reply), 0);
+        assert!(store == before);
+        assert_eq!(change_name(&mut store, 0, b"z", &mut moved[..8], &mut reply), 0);
+        assert_eq!(reply, [0, 0, 0, 0, 0, 0, 0, 0, 0, 0, 0, 0, 0, 0, 0, 0, 2, 0, 0, 0]);
+        assert_eq!(moved, [0, 0, 0, 0, 1, 0, 0, 0, 7]);
+    }
+
     /// Nothing that is lent need be aligned: each slice at every distance from a multiple of eight.
     #[test]
     fn no_slice_need_be_aligned() {
@@ -100,8 +123,9 @@ mod tests {
             assert_eq!(load(sheet, store, reply), 0);
             assert_eq!(ask_reference(store, 0, buffer, reply), 0);
             assert_eq!(reply, [0, 0, 0, 0, 0, 0, 0, 0, 1, 0, 0, 0, 0, 0, 0, 0, 0, 0, 0, 0]);
-            assert_eq!(change_name(store, 0, text, reply), 0);
-            assert_eq!(change_reference(store, 0, text, reply), 0);
+            assert_eq!(change_name(store, 0, text, buffer, reply), 0);
+            assert_eq!((&buffer[..], &reply[16..]), (&[0; 4][..], &[1, 0, 0, 0][..]));
+            assert_eq!(change_reference(store, 0, text, buffer, reply), 0);
             buffer.fill(7);
             assert_eq!(ask_name(store, 0, buffer, reply), 0);
             assert_eq!((&buffer[..], &reply[16..]), (&[0; 4][..], &[1, 0, 0, 0][..]));

@@ -20,7 +20,7 @@ use std::fmt;
 /// ```
 #[derive(Clone, Copy, PartialEq, Eq, Hash, PartialOrd, Ord)]
 pub struct Refusal {
-    /// Which refusal it is: 1 to 7 and 31 to 33 are of the sheet, 8 and 21 to 27 of the other calls.
+    /// Which refusal it is: 1 to 7 and 31 to 33 are of the sheet, 8, 21 to 27 and 34 of the other calls.
     pub number: u32,
     /// Where, or how much: what [`Reason`] says for the number; 0 where it says nothing.
     pub place: u32,
@@ -72,6 +72,9 @@ pub enum Reason {
     /// 33: a node's `from` is above its `to`, or one of them is above 4,294,967,295. The place is the first byte of its
     /// line; a `from` above its `to` is told at the line of the `to`.
     WrongRange,
+    /// 34: a change moves more References than its buffer has room for. The place is how many. This library then lends
+    /// a longer one and makes the change again, so its callers never see it.
+    MovedBufferTooShort,
 }
 
 impl Refusal {
@@ -96,6 +99,7 @@ impl Refusal {
             31 => Reason::WrongFlag,
             32 => Reason::WrongText,
             33 => Reason::WrongRange,
+            34 => Reason::MovedBufferTooShort,
             _ => return None,
         })
     }
@@ -155,6 +159,7 @@ impl fmt::Display for Refusal {
             Reason::WrongRange => {
                 write!(f, "at byte {place} of the sheet a node's `from` is above its `to`, or one of them is above 4,294,967,295")
             }
+            Reason::MovedBufferTooShort => write!(f, "the change moves {place} References, for which the buffer is too short"),
         }
     }
 }
@@ -176,7 +181,7 @@ mod tests {
     #[test]
     fn each_number_has_its_sentence() {
         let numbers: Vec<u32> = (0..100).filter(|&number| Refusal { number, place: 9 }.reason().is_some()).collect();
-        assert_eq!(numbers, [1, 2, 3, 4, 5, 6, 7, 8, 21, 22, 23, 24, 25, 26, 27, 31, 32, 33]);
+        assert_eq!(numbers, [1, 2, 3, 4, 5, 6, 7, 8, 21, 22, 23, 24, 25, 26, 27, 31, 32, 33, 34]);
         let mut sentences: Vec<String> = numbers.iter().map(|&number| Refusal { number, place: 9 }.to_string()).collect();
         sentences.sort();
         sentences.dedup();
@@ -209,6 +214,7 @@ mod tests {
         let spent = "refused (27): the texts of all changes since the load would have more than 8,192 bytes: \
             reload a sheet of the changed text";
         assert_eq!(said(27), spent);
+        assert_eq!(said(34), "refused (34): the change moves 305 References, for which the buffer is too short");
     }
 
     #[test]

@@ -7,14 +7,15 @@ use crate::layout::{word, words, KEPT, REPLY_BYTES, STORE_BYTES};
 use crate::refusal::Refusal;
 use std::fmt;
 
-/// How many numbers the first buffer of an asking holds. Few lists are longer, and for those the asking is made twice.
+/// How many numbers the first buffer of a call holds. Few lists are longer, and for those the call is made twice.
 const FIRST_BUFFER: usize = 32;
 
 /// No list is longer than the table of kept references.
 const LONGEST_LIST: u32 = KEPT.limit;
 
-/// The refusal of a list that is longer than its buffer, and of a number that nothing has.
+/// The refusals of a list that is longer than its buffer, an asking's and a change's, and of a number that nothing has.
 const BUFFER_TOO_SHORT: u32 = 26;
+const MOVED_BUFFER_TOO_SHORT: u32 = 34;
 const NO_SUCH_NUMBER: u32 = 24;
 
 /// A loaded file: its expressions, names and scopes, what each Reference means and where each name is used.
@@ -33,8 +34,8 @@ const NO_SUCH_NUMBER: u32 = 24;
 /// assert_eq!(store.ask_reference(ExprId(0))?, Answer::Definition(NameId(0)));
 /// assert_eq!(store.ask_name(NameId(0))?, [ExprId(0)]);
 ///
-/// // `y: x`, in which nothing has the name x.
-/// store.change_name(NameId(0), b"y")?;
+/// // `y: x`, in which nothing has the name x. The change tells which meanings are others now.
+/// assert_eq!(store.change_name(NameId(0), b"y")?, [ExprId(0)]);
 /// assert_eq!(store.ask_reference(ExprId(0))?, Answer::None);
 /// # Ok::<(), Box<dyn std::error::Error>>(())
 /// ```
@@ -75,18 +76,19 @@ fn outcome(number: u32, reply: &[u8]) -> Result<(), Refusal> {
     }
 }
 
-/// Makes an asking, and where its list is longer than the buffer once more with one that is long enough.
-fn asked(ask: impl Fn(&mut [u8], &mut [u8]) -> u32) -> Result<Reply, Refusal> {
-    match asked_once(&ask, FIRST_BUFFER) {
-        Err(Refusal { number: BUFFER_TOO_SHORT, place }) => asked_once(&ask, place.min(LONGEST_LIST) as usize),
+/// Makes a call that has a list, and where that is longer than the buffer once more with one that is long enough: the
+/// first has then changed nothing.
+fn listed(mut call: impl FnMut(&mut [u8], &mut [u8]) -> u32) -> Result<Reply, Refusal> {
+    match listed_once(&mut call, FIRST_BUFFER) {
+        Err(Refusal { number: BUFFER_TOO_SHORT | MOVED_BUFFER_TOO_SHORT, place }) => listed_once(call, place.min(LONGEST_LIST) as usize),
         other => other,
     }
 }
 
-fn asked_once(ask: impl Fn(&mut [u8], &mut [u8]) -> u32, numbers: usize) -> Result<Reply, Refusal> {
+fn listed_once(mut call: impl FnMut(&mut [u8], &mut [u8]) -> u32, numbers: usize) -> Result<Reply, Refusal> {
     let mut buffer = vec![0; 4 * numbers];
     let mut reply = Reply { words: [0; REPLY_BYTES], list: Vec::new() };
-    outcome(ask(&mut buffer, &mut reply.words), &reply.words)?;
+    outcome(call(&mut buffer, &mut reply.words), &reply.words)?;
     reply.list = words(&buffer).take(reply.word(16) as usize).map(ExprId).collect();
     Ok(reply)
 }
@@ -166,27 +168,29 @@ impl Store {
 
     /// What a Reference means. Refused with 24 where there is no such expression, and with 25 where it is no Reference.
     pub fn ask_reference(&self, expr: ExprId) -> Result<Answer, Refusal> {
-        asked(|buffer, reply| ffi::ask_reference(&self.bytes, expr.0, buffer, reply))?.answer()
+        listed(|buffer, reply| ffi::ask_reference(&self.bytes, expr.0, buffer, reply))?.answer()
     }
 
     /// The References that mean a name, ascending. Refused with 24 where there is no such name.
     pub fn ask_name(&self, name: NameId) -> Result<Vec<ExprId>, Refusal> {
-        Ok(asked(|buffer, reply| ffi::ask_name(&self.bytes, name.0, buffer, reply))?.list)
+        Ok(listed(|buffer, reply| ffi::ask_name(&self.bytes, name.0, buffer, reply))?.list)
     }
 
     /// Sets the text of a Reference, and with it what it means. All answers and references are then those of the file
-    /// with the new text.
+    /// with the new text. Gives the References that mean something else than before: this one, or none.
     ///
     /// Refused with 24 and 25 as [`Store::ask_reference`] is, with 8 for a text of more than
     /// [`TEXT_LIMIT`](crate::TEXT_LIMIT) bytes, and with 27 if it is another than the old one and has more bytes than
     /// [`Store::room_left`] says. A refusal leaves the store as it was.
-    pub fn change_reference(&mut self, expr: ExprId, text: &[u8]) -> Result<(), Refusal> {
-        let mut reply = [0; REPLY_BYTES];
-        outcome(ffi::change_reference(&mut self.bytes, expr.0, text, &mut reply), &reply)
+    pub fn change_reference(&mut self, expr: ExprId, text: &[u8]) -> Result<Vec<ExprId>, Refusal> {
+        Ok(listed(|moved, reply| ffi::change_reference(&mut self.bytes, expr.0, text, moved, reply))?.list)
     }
 
     /// Sets the text of a name, and nothing else: the References that meant it keep their texts. All answers and
     /// references are then those of the file with the new text.
+    ///
+    /// Gives the References that mean something else than before, ascending, and no others: what an editor has to paint
+    /// again. A text that is the old one moves none.
     ///
     /// Refused with 24 where there is no such name, with 8 for a text of more than [`TEXT_LIMIT`](crate::TEXT_LIMIT)
     /// bytes, and with 27 if it is another than the old one and has more bytes than [`Store::room_left`] says. A
@@ -230,9 +234,8 @@ impl Store {
     /// - The Ident of `inherit x;` is a name and a Reference, that of `inherit (source) x;` a name and what is
     ///   selected. Where only one of the two is renamed no `inherit` says it any more: `x = y;`, `y = x;` or
     ///   `y = source.x;` does.
-    pub fn change_name(&mut self, name: NameId, text: &[u8]) -> Result<(), Refusal> {
-        let mut reply = [0; REPLY_BYTES];
-        outcome(ffi::change_name(&mut self.bytes, name.0, text, &mut reply), &reply)
+    pub fn change_name(&mut self, name: NameId, text: &[u8]) -> Result<Vec<ExprId>, Refusal> {
+        Ok(listed(|moved, reply| ffi::change_name(&mut self.bytes, name.0, text, moved, reply))?.list)
     }
 }
 

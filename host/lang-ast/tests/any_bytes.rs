@@ -96,7 +96,7 @@ fn short_and_long_bytes() {
     // Bytes past a store mean nothing and are left alone.
     let mut store = Store::from_bytes([loaded, vec![7; 100]].concat());
     assert_eq!(store.check(), Ok(()));
-    assert_eq!(store.change_name(NameId(0), b"y"), Ok(()));
+    assert_eq!(store.change_name(NameId(0), b"y"), Ok(vec![ExprId(0)]));
     assert!(store.as_bytes().ends_with(&[7; 100]));
     assert_eq!(store.name(NameId(0)).map(|name| name.text), Some(b"y".as_slice()));
 }

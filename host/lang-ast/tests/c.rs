@@ -16,14 +16,17 @@ n0 of 1 is at 0 to 1
 ask the use: refusal 0, place 0, answer 1, to 0, length 0
 ask the name: refusal 0, place 0, answer 0, to 0, length 1
 first use: e0
-name it y: refusal 0, place 0, answer 0, to 0, length 0
+name it y in too short a buffer: refusal 34, place 1, answer 0, to 0, length 0
+name it x, which it is, in none: refusal 0, place 0, answer 0, to 0, length 0
+name it y: refusal 0, place 0, answer 0, to 0, length 1
+first moved: e0
 ask the use: refusal 0, place 0, answer 0, to 0, length 0
 ask the name: refusal 0, place 0, answer 0, to 0, length 0
-use y: refusal 0, place 0, answer 0, to 0, length 0
+use y: refusal 0, place 0, answer 0, to 0, length 1
 ask the use: refusal 0, place 0, answer 1, to 0, length 0
 ask the name: refusal 0, place 0, answer 0, to 0, length 1
 ask without a buffer: refusal 26, place 1, answer 0, to 0, length 0
-name it nothing: refusal 0, place 0, answer 0, to 0, length 0
+name it nothing: refusal 0, place 0, answer 0, to 0, length 1
 ";
 
 fn run(command: &mut Command) -> String {

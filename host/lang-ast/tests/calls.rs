@@ -51,8 +51,8 @@ fn texts_are_refused_with_8() {
     let (longest, too_long) = (vec![b'y'; TEXT_LIMIT], vec![b'y'; TEXT_LIMIT + 1]);
     assert_eq!(refused(store.change_name(NameId(0), &too_long)), (8, 255));
     assert_eq!(refused(store.change_reference(ExprId(0), &too_long)), (8, 255));
-    assert_eq!(store.change_name(NameId(0), &longest), Ok(()));
-    assert_eq!(store.change_reference(ExprId(0), &longest), Ok(()));
+    assert_eq!(store.change_name(NameId(0), &longest), Ok(vec![ExprId(0)]));
+    assert_eq!(store.change_reference(ExprId(0), &longest), Ok(vec![ExprId(0)]));
 }
 
 /// All four calls on a store that they refuse.
@@ -94,21 +94,21 @@ fn the_change_room_is_refused_with_27_and_free_again_after_a_load() {
     let mut store = store(IDENTITY);
     let text = |number: u8, length: u32| vec![number; length as usize];
     for number in 0..32 {
-        assert_eq!(store.change_name(NameId(0), &text(number, 255)), Ok(()));
+        assert!(store.change_name(NameId(0), &text(number, 255)).is_ok());
     }
     assert_eq!((store.room_spent(), store.room_left()), (32 * 255, CHANGE_ROOM - 32 * 255));
     assert_eq!(refused(store.change_name(NameId(0), &text(99, store.room_left() + 1))), (27, 0));
     assert_eq!(refused(store.change_reference(ExprId(0), &text(99, store.room_left() + 1))), (27, 0));
-    assert_eq!(store.change_reference(ExprId(0), &text(98, store.room_left())), Ok(()));
+    assert_eq!(store.change_reference(ExprId(0), &text(98, store.room_left())), Ok(vec![]));
     assert_eq!(store.room_left(), 0);
     assert_eq!(Refusal { number: 27, place: 0 }.reason(), Some(Reason::RoomSpent));
     // An equal text and an empty one take no room.
-    assert_eq!(store.change_name(NameId(0), &text(31, 255)), Ok(()));
-    assert_eq!(store.change_name(NameId(0), b""), Ok(()));
+    assert_eq!(store.change_name(NameId(0), &text(31, 255)), Ok(vec![]));
+    assert_eq!(store.change_name(NameId(0), b""), Ok(vec![]));
     assert_eq!(refused(store.change_name(NameId(0), b"y")), (27, 0));
     assert_eq!(store.reload(&sheet(IDENTITY)), Ok(()));
     assert_eq!(store.room_left(), CHANGE_ROOM);
-    assert_eq!(store.change_name(NameId(0), b"y"), Ok(()));
+    assert_eq!(store.change_name(NameId(0), b"y"), Ok(vec![ExprId(0)]));
 }
 
 #[test]
@@ -136,6 +136,42 @@ fn references_that_no_first_buffer_holds_are_listed() {
     }
 }
 
+/// What a change moves, whatever the length of its first buffer.
+#[test]
+fn what_moves_is_listed_where_no_first_buffer_holds_it() {
+    for count in [0, 31, 32, 33, 3_000] {
+        let items = vec![r#"18"x""#; count].join(",");
+        let mut store = store(&format!(r#"21(11(28(18"x"),13({items})))"#));
+        let uses: Vec<ExprId> = store.references().map(|(expr, _)| expr).collect();
+        let (spent, room) = (store.room_spent(), b"long".len() as u32);
+        assert_eq!(store.change_name(NameId(0), b"long"), Ok(uses.clone()));
+        // The change that is made again is one change.
+        assert_eq!(store.room_spent(), spent + room);
+        assert_eq!(store.change_name(NameId(0), b"long"), Ok(vec![]));
+        assert_eq!(store.change_name(NameId(0), b"x"), Ok(uses));
+    }
+}
+
+/// The points of the rule: bearers of both texts in one order, and only where the meaning differs.
+#[test]
+fn what_moves_is_what_means_something_else() {
+    let changed = |notation: &str, name: u32, text: &[u8]| {
+        let moved = store(notation).change_name(NameId(name), text).expect("there is room");
+        moved.iter().map(|expr| expr.number()).collect::<Vec<_>>()
+    };
+    assert_eq!(changed(r#"21(11(28(18"a"),13(18"b",18"a",18"b")))"#, 0, b"b"), [0, 1, 2]);
+    let fields = r#"21(11(29(-,31(18"x",-),31(18"y",-)),13(18"x",18"y")))"#;
+    assert_eq!((changed(fields, 0, b"y"), changed(fields, 1, b"x")), (vec![0], vec![0, 1]));
+    let hidden = r#"21(11(29(30(18"x"),31(18"x",-)),18"x"))"#;
+    assert_eq!((changed(hidden, 0, b"q"), changed(hidden, 1, b"q")), (vec![], vec![0]));
+    let mut with = store(r#"21(4(18"a",18"b"))"#);
+    assert_eq!(with.change_reference(ExprId(1), b"c"), Ok(vec![]));
+    assert_eq!(with.change_reference(ExprId(1), b"map"), Ok(vec![ExprId(1)]));
+    // Replaced, and so never looked up: it spends room and moves nothing.
+    let mut replaced = store(r#"21(11(28(18"x"),16(25(23(18"a"),18"x"),25(23(18"a"),9"2"))))"#);
+    assert_eq!((replaced.change_reference(ExprId(0), b"map"), replaced.room_spent()), (Ok(vec![]), 3));
+}
+
 #[test]
 fn builtins_are_answered_by_their_names() {
     for builtin in Builtin::all() {
@@ -155,11 +191,11 @@ fn a_name_that_is_renamed_and_back_is_found_again() {
     let outer = store.names().find(|&name| name != inner).expect("there are two names");
     assert_eq!((found(&store, y), store.ask_name(outer)), (None, Ok(vec![])));
 
-    store.change_name(inner, b"y").expect("there is room");
+    assert_eq!(store.change_name(inner, b"y"), Ok(vec![x, y]));
     assert_eq!((found(&store, x), found(&store, y)), (Some(outer), Some(inner)));
     assert_eq!((store.ask_name(outer), store.ask_name(inner)), (Ok(vec![x]), Ok(vec![y])));
 
-    store.change_name(inner, b"x").expect("there is room");
+    assert_eq!(store.change_name(inner, b"x"), Ok(vec![x, y]));
     assert_eq!((found(&store, x), found(&store, y)), (Some(inner), None));
     assert_eq!((store.ask_name(outer), store.ask_name(inner)), (Ok(vec![]), Ok(vec![x])));
     assert_eq!(store.name(inner).map(|name| name.text), Some(b"x".as_slice()));
@@ -204,6 +240,11 @@ fn meanings(store: &Store) -> (Vec<Option<Vec<ExprId>>>, Vec<Option<Answer>>) {
     (uses, store.exprs().map(|expr| store.kept_answer(expr)).collect())
 }
 
+/// The References that mean something else.
+fn differing(before: &Store, after: &Store) -> Vec<ExprId> {
+    before.references().map(|(expr, _)| expr).filter(|&expr| before.kept_answer(expr) != after.kept_answer(expr)).collect()
+}
+
 /// The doc of `change_name`: a rename after which every name's uses are what they were left every meaning as it was.
 #[test]
 fn a_rename_that_leaves_the_uses_leaves_all_meanings() {
@@ -217,10 +258,12 @@ fn a_rename_that_leaves_the_uses_leaves_all_meanings() {
         texts.extend([b"map".to_vec(), b"nobodys".to_vec()]);
         for name in before.names().take(12) {
             let (text, mut after) = (rng.pick(&texts), before.clone());
-            after.change_name(name, &text).expect("there is room");
+            let mut moved = after.change_name(name, &text).expect("there is room");
+            assert_eq!(moved, differing(&before, &after), "seed {seed}, {name}");
             for used in before.ask_name(name).expect("a name") {
-                after.change_reference(used, &text).expect("there is room");
+                moved.extend(after.change_reference(used, &text).expect("there is room"));
             }
+            assert!(differing(&before, &after).iter().all(|expr| moved.contains(expr)), "seed {seed}, {name}");
             let ((old_uses, old_answers), (uses, answers)) = (meanings(&before), meanings(&after));
             assert_eq!(old_uses == uses, old_answers == answers, "seed {seed}, {name}");
             *(if old_uses == uses { &mut safe } else { &mut unsafe_ones }) += 1;

@@ -73,7 +73,7 @@ fn a() -> Line {
     trial.follow("the inherited value", 18, "parameter base (n0) at 0..4");
     trial.rename("the inner base", 18, "staff", "base: let staff = base; search = staff; in search");
     trial.rename("the outer base", 0, "staff", "staff: let base = staff; search = base; in search");
-    trial.changed("make the inner rename", |opened| {
+    trial.changed("make the inner rename", "moves e1", |opened| {
         opened.store.change_name(NameId(1), b"staff")?;
         opened.store.change_reference(ExprId(1), b"staff")
     });
@@ -106,19 +106,19 @@ fn d() -> Line {
     let first = trial.opened.as_ref().map(held);
     trial.follow("x", 6, "parameter x (n0) at 0..1");
     trial.references("the outer parameter", 0, "e0");
-    trial.changed("change the outer parameter to base", |opened| opened.store.change_name(NameId(0), b"base"));
+    trial.changed("change the outer parameter to base", "moves e0", |opened| opened.store.change_name(NameId(0), b"base"));
     trial.follow("x, renamed by half", 6, "nothing");
-    trial.changed("change the use to base", |opened| opened.store.change_reference(ExprId(0), b"base"));
+    trial.changed("change the use to base", "moves e0", |opened| opened.store.change_reference(ExprId(0), b"base"));
     trial.follow("base", 6, "parameter base (n0) at 0..1");
-    trial.changed("change both back to x", |opened| {
+    trial.changed("change both back to x", "moves e0", |opened| {
         opened.store.change_name(NameId(0), b"x")?;
         opened.store.change_reference(ExprId(0), b"x")
     });
     trial.follow("x again", 6, "parameter x (n0) at 0..1");
-    trial.changed("change the inner parameter to x", |opened| opened.store.change_name(NameId(1), b"x"));
+    trial.changed("change the inner parameter to x", "moves e0", |opened| opened.store.change_name(NameId(1), b"x"));
     trial.follow("x, now the inner one's", 6, "parameter x (n1) at 3..4");
     trial.references("the outer parameter", 0, "no references");
-    trial.changed("change it back to y", |opened| opened.store.change_name(NameId(1), b"y"));
+    trial.changed("change it back to y", "moves e0", |opened| opened.store.change_name(NameId(1), b"y"));
     trial.follow("x again", 6, "parameter x (n0) at 0..1");
     trial.references("the outer parameter", 0, "e0");
     let same = |opened: &Opened| if Some(held(opened)) == first { "as at first" } else { "not as at first" }.to_string();
@@ -164,10 +164,11 @@ impl Trial {
         }
     }
 
-    fn changed(&mut self, did: &str, change: impl FnOnce(&mut Opened) -> Result<(), Refusal>) {
+    /// Makes changes; wanted is what the last of them moves.
+    fn changed(&mut self, did: &str, wanted: &str, change: impl FnOnce(&mut Opened) -> Result<Vec<ExprId>, Refusal>) {
         if let Some(opened) = &mut self.opened {
-            let came = change(opened).map_or_else(|refusal| input::refused(refusal, &[]), |()| "accepted".to_string());
-            self.steps.push(Step { did: did.to_string(), came, wanted: "accepted".to_string() });
+            let came = change(opened).map_or_else(|refusal| input::refused(refusal, &[]), |moved| words::moved(&moved));
+            self.steps.push(Step { did: did.to_string(), came, wanted: wanted.to_string() });
         }
     }
 

@@ -5,6 +5,7 @@ use crate::input::{self, Opened};
 use crate::text::shown;
 use crate::words;
 use lang_ast::{Answer, Expr, ExprId, NameId, NameKind, Refusal, Store};
+use std::collections::BTreeSet;
 
 /// What Nix reads as something else than a name.
 const KEYWORDS: [&[u8]; 9] = [b"assert", b"else", b"if", b"in", b"inherit", b"let", b"rec", b"then", b"with"];
@@ -16,6 +17,8 @@ pub struct Plan {
     pub new: Vec<u8>,
     /// The References that meant the name, and are changed with it.
     pub references: Vec<ExprId>,
+    /// What each change moves when it is made: the name's first, then those of the References.
+    pub moved_by_changes: Vec<Vec<ExprId>>,
     /// The References that mean something else afterwards.
     pub moved: Vec<Moved>,
     /// All as it would be afterwards.
@@ -31,26 +34,36 @@ pub struct Moved {
 
 /// Tries a rename out. It is one change for the name and one for each Reference.
 pub fn plan(opened: &Opened, name: NameId, new: &[u8]) -> Result<Plan, String> {
-    let changed = tried(&opened.store, name, new);
-    let (references, store) = changed.map_err(|refusal| format!("the rename is {}", input::refused(refusal, &[])))?;
-    let moved = moved(&opened.store, &store).map_err(|refusal| input::refused(refusal, &[]))?;
+    let tried = tried(&opened.store, name, new).map_err(|refusal| format!("the rename is {}", input::refused(refusal, &[])))?;
+    let Tried { references, moved_by_changes, after: store } = tried;
+    let moved = moved(&opened.store, &store, &moved_by_changes).map_err(|refusal| input::refused(refusal, &[]))?;
     let old = opened.store.name(name).map(|name| name.text.to_vec()).unwrap_or_default();
-    Ok(Plan { name, old, new: new.to_vec(), references, moved, after: Opened { store, ..opened.clone() } })
+    let after = Opened { store, ..opened.clone() };
+    Ok(Plan { name, old, new: new.to_vec(), references, moved_by_changes, moved, after })
 }
 
-fn tried(store: &Store, name: NameId, new: &[u8]) -> Result<(Vec<ExprId>, Store), Refusal> {
+/// The changes of a rename, made on a clone.
+struct Tried {
+    references: Vec<ExprId>,
+    moved_by_changes: Vec<Vec<ExprId>>,
+    after: Store,
+}
+
+fn tried(store: &Store, name: NameId, new: &[u8]) -> Result<Tried, Refusal> {
     let references = store.ask_name(name)?;
     let mut after = store.clone();
-    after.change_name(name, new)?;
+    let mut moved_by_changes = vec![after.change_name(name, new)?];
     for &expr in &references {
-        after.change_reference(expr, new)?;
+        moved_by_changes.push(after.change_reference(expr, new)?);
     }
-    Ok((references, after))
+    Ok(Tried { references, moved_by_changes, after })
 }
 
-fn moved(before: &Store, after: &Store) -> Result<Vec<Moved>, Refusal> {
+/// What means something else after all changes: of the References that one of them moved those that a later one did not
+/// move back.
+fn moved(before: &Store, after: &Store, by_changes: &[Vec<ExprId>]) -> Result<Vec<Moved>, Refusal> {
     let mut moved = Vec::new();
-    for (expr, _) in before.references() {
+    for expr in by_changes.iter().flatten().copied().collect::<BTreeSet<_>>() {
         let (before, after) = (before.ask_reference(expr)?, after.ask_reference(expr)?);
         if before != after {
             moved.push(Moved { expr, before, after });

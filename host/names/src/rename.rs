@@ -8,6 +8,7 @@ use crate::place::shown_line;
 use crate::plan::{plan, Moved, Plan};
 use crate::text::{aligned, count, shown};
 use crate::words;
+use lang_ast::ExprId;
 
 /// Said of every rename: a host that makes the changes one by one can be asked in between.
 const SEVERAL: &str = "one after the other until renaming is one call; answers in between are those of half a rename";
@@ -67,15 +68,17 @@ fn moved(opened: &Opened, plan: &Plan, edits: &Edits) -> Vec<String> {
     lines
 }
 
-/// The changes as lines of a script, which `names run` takes.
+/// The changes as lines of a script, which `names run` takes, each with what it moves when it is made.
 fn called(plan: &Plan) -> Vec<String> {
     let text = hex(&plan.new);
     let calls = 1 + plan.references.len();
     let several = if calls == 1 { String::new() } else { format!(", {SEVERAL}") };
-    let mut lines = vec![format!("takes {}{several}", count(calls, "change", "changes"))];
-    lines.push(format!("  set-name {} text={text}", plan.name.number()));
-    lines.extend(plan.references.iter().map(|expr| format!("  set-ref {} text={text}", expr.number())));
-    lines
+    let set_name = format!("set-name {} text={text}", plan.name.number());
+    let set_refs = plan.references.iter().map(|expr| format!("set-ref {} text={text}", expr.number()));
+    let changes = std::iter::once(set_name).chain(set_refs).zip(&plan.moved_by_changes);
+    let rows: Vec<Vec<String>> = changes.map(|(change, moved)| vec![change, format!("# {}", words::moved(moved))]).collect();
+    let takes = format!("takes {}{several}", count(calls, "change", "changes"));
+    std::iter::once(takes).chain(indented(aligned(&rows))).collect()
 }
 
 /// The changed lines, where the Nix text is there.
@@ -106,7 +109,10 @@ pub fn json(opened: &Opened, byte: u32, new: &[u8]) -> Result<Object, String> {
     let object = Object::new().with("definition", words::definition_json(opened, plan.name)).with_text("new", new);
     let object = object.with("writes", edits.list.iter().map(edit_json).collect::<Vec<_>>()).with("moves", moved);
     let references: Vec<u32> = plan.references.iter().map(|expr| expr.number()).collect();
+    let numbers = |moved: &Vec<ExprId>| moved.iter().map(|expr| expr.number()).collect::<Vec<u32>>();
+    let moved_by_changes: Vec<Vec<u32>> = plan.moved_by_changes.iter().map(numbers).collect();
     let changes = Object::new().with("set_name", plan.name.number()).with("set_ref", references).with("text", hex(new));
+    let changes = changes.with("moved", moved_by_changes);
     let object = object.with("changes", changes).with("warnings", warnings(opened, &plan, &edits));
     let object = object.with("notes", notes(opened, &plan, &edits, byte));
     Ok(object.with("lines", lines_json(opened, &edits)))

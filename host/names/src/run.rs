@@ -4,7 +4,7 @@ use crate::input::{name_of, unread, Opened};
 use crate::json::Object;
 use crate::script::{call, Call, What};
 use crate::words;
-use lang_ast::{Answer, ExprId, NameId, Refusal};
+use lang_ast::{Answer, ExprId, NameId, Refusal, Store};
 use std::ffi::OsStr;
 use std::fmt;
 use std::fs::File;
@@ -33,7 +33,8 @@ impl From<io::Error> for Stop {
 enum Outcome {
     Answered(Answer),
     Listed(Vec<ExprId>),
-    Accepted,
+    /// A change, with the References that it moved.
+    Accepted(Vec<ExprId>),
     Refused(Refusal),
 }
 
@@ -71,23 +72,31 @@ fn next_line(reader: &mut dyn BufRead) -> io::Result<Option<Result<String, Strin
 }
 
 /// Makes a call. The library always lends enough, so lengths that the line names are held against the rules here: 21
-/// for a short reply comes before all else, 26 for a short buffer after all else.
+/// for a short reply comes before all else, 26 or 34 for a short buffer after all else.
 fn outcome(opened: &mut Opened, call: &Call) -> Outcome {
     if call.reply.is_some_and(|reply| reply < REPLY_BYTES) {
         return Outcome::Refused(Refusal { number: 21, place: 0 });
     }
-    let store = &mut opened.store;
-    let made = match &call.what {
+    let is_change = matches!(call.what, What::ChangeReference(_) | What::ChangeName(_));
+    // A change that turns out to move too much for its buffer changes nothing.
+    let before = if is_change && call.buffer.is_some() { Some(opened.store.clone()) } else { None };
+    let outcome = made(&mut opened.store, call).unwrap_or_else(Outcome::Refused);
+    let length = outcome.list().len();
+    if call.buffer.is_none_or(|buffer| buffer / 4 >= length as u64) {
+        return outcome;
+    }
+    if let Some(before) = before {
+        opened.store = before;
+    }
+    Outcome::Refused(Refusal { number: if is_change { 34 } else { 26 }, place: length as u32 })
+}
+
+fn made(store: &mut Store, call: &Call) -> Result<Outcome, Refusal> {
+    match &call.what {
         What::AskReference => store.ask_reference(ExprId(call.number)).map(Outcome::Answered),
         What::AskName => store.ask_name(NameId(call.number)).map(Outcome::Listed),
-        What::ChangeReference(text) => store.change_reference(ExprId(call.number), text).map(|()| Outcome::Accepted),
-        What::ChangeName(text) => store.change_name(NameId(call.number), text).map(|()| Outcome::Accepted),
-    };
-    let outcome = made.unwrap_or_else(Outcome::Refused);
-    let length = outcome.list().len();
-    match call.buffer {
-        Some(buffer) if buffer / 4 < length as u64 => Outcome::Refused(Refusal { number: 26, place: length as u32 }),
-        _ => outcome,
+        What::ChangeReference(text) => store.change_reference(ExprId(call.number), text).map(Outcome::Accepted),
+        What::ChangeName(text) => store.change_name(NameId(call.number), text).map(Outcome::Accepted),
     }
 }
 
@@ -95,7 +104,7 @@ impl Outcome {
     /// The list that the call leaves in the buffer.
     fn list(&self) -> &[ExprId] {
         match self {
-            Outcome::Answered(Answer::Withs(list)) | Outcome::Listed(list) => list,
+            Outcome::Answered(Answer::Withs(list)) | Outcome::Listed(list) | Outcome::Accepted(list) => list,
             _ => &[],
         }
     }
@@ -112,7 +121,7 @@ impl fmt::Display for Outcome {
             Outcome::Answered(Answer::Builtin(builtin)) => write!(f, "answer=2 to={} {listed}", builtin.index()),
             Outcome::Answered(Answer::Withs(_)) => write!(f, "answer=3 to={numbers} {listed}"),
             Outcome::Listed(_) => write!(f, "{listed}"),
-            Outcome::Accepted => write!(f, "accepted"),
+            Outcome::Accepted(_) => write!(f, "accepted {listed}"),
             Outcome::Refused(Refusal { number, place }) => write!(f, "refused={number} at={place}"),
         }
     }
@@ -127,13 +136,11 @@ fn outcome_json(opened: &Opened, call: &Call, outcome: &Outcome) -> Object {
         What::ChangeName(_) => "set-name",
     };
     let object = Object::new().with("call", verb).with("number", call.number);
+    let references = |list: &[ExprId]| list.iter().map(|&expr| words::reference_json(opened, expr)).collect::<Vec<Object>>();
     match outcome {
         Outcome::Answered(answer) => object.with("accepted", true).with("means", words::answer_json(opened, answer)),
-        Outcome::Listed(list) => {
-            let references: Vec<Object> = list.iter().map(|&expr| words::reference_json(opened, expr)).collect();
-            object.with("accepted", true).with("references", references)
-        }
-        Outcome::Accepted => object.with("accepted", true),
+        Outcome::Listed(list) => object.with("accepted", true).with("references", references(list)),
+        Outcome::Accepted(moved) => object.with("accepted", true).with("moved", references(moved)),
         Outcome::Refused(refusal) => {
             object.with("accepted", false).with("refused", refusal.number).with("at", refusal.place).with("why", refusal.to_string())
         }

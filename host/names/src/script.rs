@@ -3,8 +3,8 @@
 //! ```text
 //! ask-ref N buffer=BYTES reply=BYTES
 //! ask-name N buffer=BYTES reply=BYTES
-//! set-ref N text=HEX reply=BYTES
-//! set-name N text=HEX reply=BYTES
+//! set-ref N text=HEX buffer=BYTES reply=BYTES
+//! set-name N text=HEX buffer=BYTES reply=BYTES
 //! ```
 //!
 //! It is the format of the oracle's book, but that `buffer=` and `reply=` may be left out: then what is lent is long
@@ -45,7 +45,7 @@ pub fn call(line: &str) -> Result<Option<Call>, String> {
         "set-ref" => What::ChangeReference(text(words.next())?),
         _ => What::ChangeName(text(words.next())?),
     };
-    let buffer = if verb.starts_with("ask") { length("buffer=", &mut words)? } else { None };
+    let buffer = length("buffer=", &mut words)?;
     let reply = length("reply=", &mut words)?;
     match words.next() {
         None => Ok(Some(Call { what, number, buffer, reply })),
@@ -89,6 +89,7 @@ mod tests {
         assert_eq!(call("ask-ref 3 reply=20"), Call { buffer: None, ..asking });
         assert_eq!(call("set-name 0 text="), Call { what: What::ChangeName(vec![]), number: 0, buffer: None, reply: None });
         assert_eq!(call("set-ref 1 text=78").what, What::ChangeReference(b"x".to_vec()));
+        assert_eq!(call("set-ref 1 text=78 buffer=4").buffer, Some(4));
     }
 
     #[test]
@@ -110,7 +111,8 @@ mod tests {
             ("set-ref 1 reply=20", "where text= is wanted"),
             ("set-ref 1 text=7", "no text in hex"),
             ("set-ref 1 text=zz", "no text in hex"),
-            ("set-ref 1 text=78 buffer=4", "follows a finished call"),
+            ("set-ref 1 text=78 reply=20 buffer=4", "`buffer=4` follows"),
+            ("set-ref 1 text=78 buffer=x", "no length"),
         ] {
             assert!(call(line).unwrap_err().contains(wrong), "{line}");
         }

@@ -5,6 +5,9 @@ use crate::json::Object;
 use crate::text::shown;
 use lang_ast::{Answer, Expr, ExprId, Literal, NameId, NameKind, Pointer, Store};
 
+/// So many References are told by their numbers; more are counted.
+const MOST_LISTED: usize = 8;
+
 /// `18..22`, and with the Nix text beside it `18..22 (1:19)`.
 pub fn place(opened: &Opened, pointer: Option<Pointer>) -> String {
     let Some(Pointer { from, to, .. }) = pointer else { return "no place".to_string() };
@@ -118,4 +121,13 @@ pub fn answer_json(opened: &Opened, answer: &Answer) -> Object {
 pub fn marked(opened: &Opened, pointer: Option<Pointer>, indent: usize) -> Vec<String> {
     let (Some(source), Some(Pointer { from, to, .. })) = (&opened.source, pointer) else { return Vec::new() };
     source.marked(from, to).iter().map(|line| format!("{:indent$}{line}", "")).collect()
+}
+
+/// What a change moved: `moves e0, e3`, or how many where they are many.
+pub fn moved(moved: &[ExprId]) -> String {
+    match moved.len() {
+        0 => "moves nothing".to_string(),
+        1..=MOST_LISTED => format!("moves {}", moved.iter().map(ExprId::to_string).collect::<Vec<_>>().join(", ")),
+        many => format!("moves {many} references"),
+    }
 }

@@ -10,7 +10,7 @@ use tix::Tix;
 /// What the book says of each call. It also says whether a change's text was another, which the host is not told.
 fn said(book: &mut Book<Tix>, calls: &[Call]) -> String {
     let line = |call| match book.call(call) {
-        outcome if outcome.changed.is_some() => "accepted\n".to_string(),
+        outcome if outcome.changed.is_some() => format!("{outcome}\n").replace("changed=0", "accepted").replace("changed=1", "accepted"),
         outcome => format!("{outcome}\n"),
     };
     calls.iter().map(line).collect()
@@ -34,7 +34,7 @@ fn random_calls_are_answered_as_by_the_book() {
         let mut book = Book::new(Tix::new(&nodes));
         let (mut script, mut expected) = (String::new(), String::new());
         for _ in 0..60 {
-            let call = book::random::call(&mut rng, &book.facts(), seed % 8 == 1);
+            let call = book::random::call(&mut rng, &book, seed % 8 == 1);
             script += &format!("{call}\n");
             expected += &said(&mut book, &[call]);
         }

@@ -97,8 +97,10 @@ fn references_are_those_of_the_definition() {
 
 #[test]
 fn run_answers_each_line() {
-    let script = b"ask-ref 0\n# half a rename\nset-name 0 text=62617365\n\nask-ref 0\nask-name 9\nask-name 0 buffer=0 reply=19\n";
-    let expected = "answer=1 to=0 length=0 list=\naccepted\nanswer=0 to= length=0 list=\nrefused=24 at=9\nrefused=21 at=0\n";
+    let script = b"ask-ref 0\n# half a rename\nset-name 0 text=62617365 buffer=3\nset-name 0 text=62617365 buffer=4\n\nask-ref 0\n\
+        set-name 0 text=62617365 buffer=0\nask-name 9\nask-name 0 buffer=0 reply=19\n";
+    let expected = "answer=1 to=0 length=0 list=\nrefused=34 at=1\naccepted length=1 list=0\nanswer=0 to= length=0 list=\n\
+        accepted length=0 list=\nrefused=24 at=9\nrefused=21 at=0\n";
     assert_eq!(printed(&["run", "examples/lambda.sheet"], script), expected);
     assert_eq!(printed(&["run", "examples/lambda.sheet", "-"], script), expected);
     let sheet = std::fs::read(common::root().join("examples/lambda.sheet")).unwrap();

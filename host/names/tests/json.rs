@@ -105,7 +105,7 @@ fn follow_and_references_say_what_is_here() {
 fn rename_run_and_lines_are_json_too() {
     let rename = checked(&["rename", "examples/line-d-rename-and-back.sheet", "0", "y", "-"], b"x: y: x");
     let writes = r#""writes":[{"from":0,"to":1,"old":"x","new":"y"},{"from":6,"to":7,"old":"x","new":"y"}]"#;
-    let changes = r#""changes":{"set_name":0,"set_ref":[0],"text":"79"}"#;
+    let changes = r#""changes":{"set_name":0,"set_ref":[0],"text":"79","moved":[[0],[0]]}"#;
     let lines = r#""lines":[{"line":1,"before":[{"text":"x: y: x"}],"after":[{"text":"y: y: y"}]}]"#;
     for part in [writes, changes, lines] {
         assert!(rename.contains(part), "{rename}");
@@ -114,7 +114,7 @@ fn rename_run_and_lines_are_json_too() {
     let expected = concat!(
         r#"{"call":"ask-ref","number":0,"accepted":true,"means":{"kind":"definition","name":0,"sort":"parameter","text":"x","from":0,"to":1}}"#,
         "\n",
-        r#"{"call":"set-name","number":0,"accepted":true}"#,
+        r#"{"call":"set-name","number":0,"accepted":true,"moved":[{"expr":0,"text":"x","from":3,"to":4}]}"#,
         "\n",
         r#"{"call":"ask-ref","number":1,"accepted":false,"refused":25,"at":1,"why":"refused (25): expression 1 is no Reference"}"#,
         "\n"

@@ -97,8 +97,8 @@ would move 1 reference
     then  parameter y (n1) at 3..4
 
 takes 2 changes, one after the other until renaming is one call; answers in between are those of half a rename
-  set-name 0 text=79
-  set-ref 0 text=79
+  set-name 0 text=79  # moves e0
+  set-ref 0 text=79   # moves e0
 ";
     assert_eq!(out, expected);
 }
@@ -161,7 +161,8 @@ fn the_listed_changes_can_be_run() {
     let out = printed(&["rename", sheet, "18", "staff"], b"");
     let changes: String = out.lines().filter(|line| line.starts_with("  set-")).map(|line| format!("{line}\n")).collect();
     let script = file("changes.script", (changes + "ask-ref 0\nask-ref 1\nask-name 1\n").as_bytes());
-    let expected = "accepted\naccepted\nanswer=1 to=0 length=0 list=\nanswer=1 to=1 length=0 list=\nlength=1 list=1\n";
+    let expected =
+        "accepted length=1 list=1\naccepted length=1 list=1\nanswer=1 to=0 length=0 list=\nanswer=1 to=1 length=0 list=\nlength=1 list=1\n";
     assert_eq!(printed(&["run", sheet, &script], b""), expected);
 }
 

@@ -12,8 +12,8 @@ mod raw {
         pub fn lang_ast_load(sheet: *const u8, sheet_length: usize, store: *mut u8, length: usize, reply: *mut u8, reply_length: usize) -> u32;
         pub fn lang_ast_ask_reference(store: *const u8, length: usize, number: u32, buffer: *mut u8, buffer_length: usize, reply: *mut u8, reply_length: usize) -> u32;
         pub fn lang_ast_ask_name(store: *const u8, length: usize, number: u32, buffer: *mut u8, buffer_length: usize, reply: *mut u8, reply_length: usize) -> u32;
-        pub fn lang_ast_change_reference(store: *mut u8, length: usize, number: u32, text: *const u8, text_length: usize, reply: *mut u8, reply_length: usize) -> u32;
-        pub fn lang_ast_change_name(store: *mut u8, length: usize, number: u32, text: *const u8, text_length: usize, reply: *mut u8, reply_length: usize) -> u32;
+        pub fn lang_ast_change_reference(store: *mut u8, length: usize, number: u32, text: *const u8, text_length: usize, moved: *mut u8, moved_length: usize, reply: *mut u8, reply_length: usize) -> u32;
+        pub fn lang_ast_change_name(store: *mut u8, length: usize, number: u32, text: *const u8, text_length: usize, moved: *mut u8, moved_length: usize, reply: *mut u8, reply_length: usize) -> u32;
     }
 }
 
@@ -40,16 +40,22 @@ pub fn ask_name(store: &[u8], number: u32, buffer: &mut [u8], reply: &mut [u8]) 
     unsafe { raw::lang_ast_ask_name(store.as_ptr(), store.len(), number, at, length, reply.as_mut_ptr(), reply.len()) }
 }
 
-/// Sets the text of a Reference.
-pub fn change_reference(store: &mut [u8], number: u32, text: &[u8], reply: &mut [u8]) -> u32 {
-    let (at, length) = (text.as_ptr(), text.len());
-    unsafe { raw::lang_ast_change_reference(store.as_mut_ptr(), store.len(), number, at, length, reply.as_mut_ptr(), reply.len()) }
+/// Sets the text of a Reference, and lists what that moved.
+pub fn change_reference(store: &mut [u8], number: u32, text: &[u8], moved: &mut [u8], reply: &mut [u8]) -> u32 {
+    let (store, length) = (store.as_mut_ptr(), store.len());
+    let (text, text_length) = (text.as_ptr(), text.len());
+    let (moved, moved_length) = (moved.as_mut_ptr(), moved.len());
+    unsafe {
+        raw::lang_ast_change_reference(store, length, number, text, text_length, moved, moved_length, reply.as_mut_ptr(), reply.len())
+    }
 }
 
-/// Sets the text of a name.
-pub fn change_name(store: &mut [u8], number: u32, text: &[u8], reply: &mut [u8]) -> u32 {
-    let (at, length) = (text.as_ptr(), text.len());
-    unsafe { raw::lang_ast_change_name(store.as_mut_ptr(), store.len(), number, at, length, reply.as_mut_ptr(), reply.len()) }
+/// Sets the text of a name, and lists what that moved.
+pub fn change_name(store: &mut [u8], number: u32, text: &[u8], moved: &mut [u8], reply: &mut [u8]) -> u32 {
+    let (store, length) = (store.as_mut_ptr(), store.len());
+    let (text, text_length) = (text.as_ptr(), text.len());
+    let (moved, moved_length) = (moved.as_mut_ptr(), moved.len());
+    unsafe { raw::lang_ast_change_name(store, length, number, text, text_length, moved, moved_length, reply.as_mut_ptr(), reply.len()) }
 }
 
 /// Loads a sheet that is in order.

@@ -16,15 +16,15 @@ pub fn kind(call: &Call) -> usize {
     }
 }
 
-/// The lengths of the buffer, 0 for a change, and of the reply.
+/// The lengths of the buffer and of the reply.
 pub fn lengths(call: &Call) -> (usize, usize) {
     match call {
         Call::AskReference { buffer, reply, .. } | Call::AskName { buffer, reply, .. } => (*buffer, *reply),
-        Call::ChangeReference { reply, .. } | Call::ChangeName { reply, .. } => (0, *reply),
+        Call::ChangeReference { buffer, reply, .. } | Call::ChangeName { buffer, reply, .. } => (*buffer, *reply),
     }
 }
 
-/// What a call came to: the number returned, the reply, and the buffer of an asking.
+/// What a call came to: the number returned, the reply and the buffer.
 pub struct Made {
     pub number: u32,
     pub reply: Edged,
@@ -38,8 +38,8 @@ pub fn make(store: &mut [u8], call: &Call) -> Made {
     let number = match call {
         Call::AskReference { number, .. } => ask_reference(store, *number, buffer.slice(), reply.slice()),
         Call::AskName { number, .. } => ask_name(store, *number, buffer.slice(), reply.slice()),
-        Call::ChangeReference { number, text, .. } => change_reference(store, *number, text, reply.slice()),
-        Call::ChangeName { number, text, .. } => change_name(store, *number, text, reply.slice()),
+        Call::ChangeReference { number, text, .. } => change_reference(store, *number, text, buffer.slice(), reply.slice()),
+        Call::ChangeName { number, text, .. } => change_name(store, *number, text, buffer.slice(), reply.slice()),
     };
     Made { number, reply, buffer }
 }

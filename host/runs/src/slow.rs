@@ -140,16 +140,16 @@ fn round(store: &mut [u8], e: u32) -> Result<[f64; 5], String> {
     let mut asked = [0.0; 2];
     let ask_name = time(|| numbers.push(exported::ask_name(store, 0, &mut buffer, &mut reply)));
     asked[0] = time(|| numbers.push(exported::ask_reference(store, e, &mut buffer, &mut reply)));
-    let reference = time(|| numbers.push(exported::change_reference(store, e, b"z", &mut reply)));
+    let reference = time(|| numbers.push(exported::change_reference(store, e, b"z", &mut buffer, &mut reply)));
     put_back(store, EXPRS.word(e as usize, 2), kept[1], kept[2]);
-    let away = time(|| numbers.push(exported::change_name(store, 0, b"y", &mut reply)));
+    let away = time(|| numbers.push(exported::change_name(store, 0, b"y", &mut buffer, &mut reply)));
     // Now the answer may be a list of Withs.
     asked[1] = time(|| numbers.push(exported::ask_reference(store, e, &mut buffer, &mut reply)));
     let answer = get(&reply, 8);
     // A text of more than 255 bytes can't be set again, so that one goes to another text.
     let old = text_of(store, kept[0]).to_vec();
     let text = if old.len() <= book::TEXT_BYTES { old } else { b"x".to_vec() };
-    let back = time(|| numbers.push(exported::change_name(store, 0, &text, &mut reply)));
+    let back = time(|| numbers.push(exported::change_name(store, 0, &text, &mut buffer, &mut reply)));
     put_back(store, NAMES.word(0, 0), kept[0], kept[2]);
     match numbers.iter().find(|&&number| number != 0) {
         None if answer != 1 => Ok([asked[0].max(asked[1]), ask_name, reference, away, back]),
@@ -188,7 +188,7 @@ fn sheet(store: &mut [u8], what: &str, used: impl Fn(usize) -> usize) -> Result<
         times[0].push(time(|| numbers.push(exported::load(&bytes, store, &mut reply))) / 1e3);
         times[1].push(time(|| rust::from_bytes(&bytes)) / 1e3);
         times[2].push(time(|| numbers.push(exported::ask_name(store, 0, &mut buffer, &mut reply))) / 1e3);
-        times[3].push(time(|| numbers.push(exported::change_name(store, 0, &text(1), &mut reply))) / 1e3);
+        times[3].push(time(|| numbers.push(exported::change_name(store, 0, &text(1), &mut buffer, &mut reply))) / 1e3);
     }
     if let Some(number) = numbers.iter().find(|&&number| number != 0) {
         return Err(format!("{what}: a call is refused with {number}"));

@@ -8,8 +8,9 @@ use crate::nameres::expected::Right;
 use crate::store::asked::{self, Accepted, Refusal};
 use crate::store::build::{build, Texts};
 use crate::store::layout::{self, get, header, put, KEPT, NONE, REFERENCES, USES};
-use crate::store::module::{Answer, Expr, Placed};
-use crate::store::{encode, page, resolve};
+use crate::store::module::{Answer, Expr};
+use crate::store::moves::{self, Moves, Place};
+use crate::store::{encode, page};
 use book::Call;
 use canon::Reading;
 use generate::Rng;
@@ -36,17 +37,19 @@ pub unsafe fn lang_ast_ask_name(store: *const u8, length: usize, number: u32, bu
 }
 
 #[rustfmt::skip]
-pub unsafe fn lang_ast_change_reference(store: *mut u8, length: usize, number: u32, text: *const u8, text_length: usize, reply: *mut u8, reply_length: usize) -> u32 {
+pub unsafe fn lang_ast_change_reference(store: *mut u8, length: usize, number: u32, text: *const u8, text_length: usize, moved: *mut u8, moved_length: usize, reply: *mut u8, reply_length: usize) -> u32 {
     let text = unsafe { from_raw_parts(text, text_length) }.to_vec();
-    let call = Call::ChangeReference { number, text: text.clone(), reply: reply_length };
-    unsafe { change(from_raw_parts_mut(store, length), &call, &text, from_raw_parts_mut(reply, reply_length)) }
+    let call = Call::ChangeReference { number, text: text.clone(), buffer: moved_length, reply: reply_length };
+    let (moved, reply) = unsafe { (from_raw_parts_mut(moved, moved_length), from_raw_parts_mut(reply, reply_length)) };
+    change(unsafe { from_raw_parts_mut(store, length) }, &call, Place::Reference(number), &text, moved, reply)
 }
 
 #[rustfmt::skip]
-pub unsafe fn lang_ast_change_name(store: *mut u8, length: usize, number: u32, text: *const u8, text_length: usize, reply: *mut u8, reply_length: usize) -> u32 {
+pub unsafe fn lang_ast_change_name(store: *mut u8, length: usize, number: u32, text: *const u8, text_length: usize, moved: *mut u8, moved_length: usize, reply: *mut u8, reply_length: usize) -> u32 {
     let text = unsafe { from_raw_parts(text, text_length) }.to_vec();
-    let call = Call::ChangeName { number, text: text.clone(), reply: reply_length };
-    unsafe { change(from_raw_parts_mut(store, length), &call, &text, from_raw_parts_mut(reply, reply_length)) }
+    let call = Call::ChangeName { number, text: text.clone(), buffer: moved_length, reply: reply_length };
+    let (moved, reply) = unsafe { (from_raw_parts_mut(moved, moved_length), from_raw_parts_mut(reply, reply_length)) };
+    change(unsafe { from_raw_parts_mut(store, length) }, &call, Place::Name(number), &text, moved, reply)
 }
 
 /// Writes the reply where it is long enough; the number that is returned.
@@ -72,20 +75,28 @@ fn load(sheet: &[u8], store: &mut [u8]) -> Result<Accepted, Refusal> {
 
 fn ask(store: &[u8], call: &Call, buffer: &mut [u8], reply: &mut [u8]) -> u32 {
     let told = asked::told(store, call);
-    if let Ok(accepted) = &told {
-        accepted.list.iter().enumerate().for_each(|(i, &number)| put(buffer, 4 * i, number));
-    }
+    list(buffer, &told);
     tell(reply, &told)
 }
 
-fn change(store: &mut [u8], call: &Call, text: &[u8], reply: &mut [u8]) -> u32 {
+/// Writes the list of an accepted call.
+fn list(buffer: &mut [u8], told: &Result<Accepted, Refusal>) {
+    if let Ok(accepted) = told {
+        accepted.list.iter().enumerate().for_each(|(i, &number)| put(buffer, 4 * i, number));
+    }
+}
+
+fn change(store: &mut [u8], call: &Call, changed: Place, text: &[u8], moved: &mut [u8], reply: &mut [u8]) -> u32 {
     let told = asked::told(store, call);
     if let Ok(Accepted { changes: Some(at), .. }) = told {
-        let old = asked::text_of(store, get(store, at)).to_vec();
+        let moves = page::read(store).map(|before| moves::by(&before, changed, text));
         let number = place(store, text);
         put(store, at, number);
-        resolve_again(store, [&old, text]);
+        if let Ok(moves) = moves {
+            keep(store, &moves);
+        }
     }
+    list(moved, &told);
     tell(reply, &told)
 }
 
@@ -104,25 +115,23 @@ fn place(store: &mut [u8], text: &[u8]) -> u32 {
     number
 }
 
-/// The answers of the References that bear one of the texts afresh, and the references of every name from all answers.
-fn resolve_again(store: &mut [u8], texts: [&[u8]; 2]) {
-    let Ok(module) = page::read(store) else { return };
-    let answer = |(e, placed): (usize, &Placed)| match placed.expr {
-        Expr::Reference(text) if texts.contains(&text) => resolve::answer(&module, e),
-        Expr::Reference(_) => Some(placed.answer),
-        _ => None,
-    };
-    let answers: Vec<Option<Answer>> = module.exprs.iter().enumerate().map(answer).collect();
-    let names = module.names.len();
-    for (e, answer) in answers.iter().enumerate() {
-        if let Some(answer) = answer {
-            put(store, USES.word(e, 1), encode::answer(*answer));
-        }
+/// The answers as they moved, and where one did the references of every name from all answers.
+fn keep(store: &mut [u8], moves: &Moves) {
+    for &e in &moves.moved {
+        put(store, USES.word(e as usize, 1), encode::answer(moves.answers[e as usize]));
     }
+    if moves.moved.is_empty() {
+        return;
+    }
+    let Ok(module) = page::read(store) else { return };
+    let is_kept =
+        |e: usize, name: usize| matches!(module.exprs[e].expr, Expr::Reference(_)) && moves.answers[e] == Answer::Definition(name as u32);
+    let names = module.names.len();
+    let lists: Vec<Vec<usize>> = (0..names).map(|name| (0..moves.answers.len()).filter(|&e| is_kept(e, name)).collect()).collect();
     let mut kept = 0;
-    for name in 0..names {
+    for (name, list) in lists.into_iter().enumerate() {
         put(store, REFERENCES.word(name, 0), kept as u32);
-        for e in (0..answers.len()).filter(|&e| answers[e] == Some(Answer::Definition(name as u32))) {
+        for e in list {
             put(store, KEPT.word(kept, 0), e as u32);
             kept += 1;
         }

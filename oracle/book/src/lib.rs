@@ -9,12 +9,13 @@
 //! | refused | `refused=R at=P` |
 //! | asking about a Reference | `answer=A to=T length=L list=N,N` |
 //! | asking about a name | `length=L list=N,N` |
-//! | change | `changed=1`, or `changed=0` for an equal text |
+//! | change | `changed=C length=L list=N,N` |
 //!
-//! `answer` is 0 to 3, `to` the name, the index, the Withs or empty; `list` the With list or the kept references. Shown
-//! with `{:#}` the line ends in ` moved=N,N`, the References whose answers moved, which the host is not told.
+//! `answer` is 0 to 3, `to` the name, the index, the Withs or empty; `changed` is 0 for an equal text, else 1; `list`
+//! has the Withs, the kept references or the References that moved. That a text was equal is the one thing of these
+//! that the host is not told.
 //!
-//! `script` reads calls from text, `random` makes them up, `locality` holds a call's moved answers against demand 3.
+//! `script` reads calls from text, `random` makes them up, `locality` holds what a call moved against demand 3.
 
 use std::collections::BTreeMap;
 use std::fmt;
@@ -37,8 +38,8 @@ pub const ROOM_BYTES: usize = 8_192;
 pub enum Call {
     AskReference { number: u32, buffer: usize, reply: usize },
     AskName { number: u32, buffer: usize, reply: usize },
-    ChangeReference { number: u32, text: Vec<u8>, reply: usize },
-    ChangeName { number: u32, text: Vec<u8>, reply: usize },
+    ChangeReference { number: u32, text: Vec<u8>, buffer: usize, reply: usize },
+    ChangeName { number: u32, text: Vec<u8>, buffer: usize, reply: usize },
 }
 
 impl Call {
@@ -59,12 +60,13 @@ pub struct Outcome {
     pub place: u32,
     /// The answer of an accepted asking about a Reference.
     pub answer: Option<Answer>,
-    /// The With list or the kept references that an accepted asking leaves in the buffer; its length is the length that
-    /// is returned.
+    /// What an accepted call leaves in the buffer: the With list, the kept references, or the References that a change
+    /// moved. Its length is the length that is returned.
     pub list: Vec<u32>,
     /// For an accepted change whether the text differed from the old.
     pub changed: Option<bool>,
-    /// The References whose answers the call moved, ascending: "its 0-3, name, index or With list different".
+    /// The References whose answers are others after the call, ascending: "its 0-3, name, index or With list
+    /// different". Every call is looked at for them, refused ones too, whatever its list says.
     pub moved: Vec<ExprId>,
 }
 
@@ -81,6 +83,10 @@ pub struct Held {
 
 /// A refusal's number and place.
 type Refusal = (u32, u32);
+
+/// The refusals of a buffer that is too short: for the list of an asking, and for what a change moves.
+const LIST_TOO_LONG: u32 = 26;
+const MOVED_TOO_LONG: u32 = 34;
 
 /// What a change is about.
 #[derive(Clone, Copy)]
@@ -130,7 +136,7 @@ impl<R: Reading> Book<R> {
         outcome
     }
 
-    /// "Other calls check 21 to 25, then 8, then 26 or 27." A short store, 22 and 23 never come up.
+    /// 21 to 25, then 8, then 26 of an asking, 27 and 34 of a change. A short store, 22 and 23 never come up.
     fn outcome(&mut self, now: &Facts, call: &Call) -> Result<Outcome, Refusal> {
         if call.reply() < REPLY_BYTES {
             return Err((21, 0));
@@ -138,37 +144,48 @@ impl<R: Reading> Book<R> {
         match call {
             Call::AskReference { number, buffer, .. } => ask_reference(now, *number, *buffer),
             Call::AskName { number, buffer, .. } => ask_name(now, *number, *buffer),
-            Call::ChangeReference { number, text, .. } => {
-                let old = reference_text(&now.module, *number)?;
-                self.change(Target::Reference(*number), old, text)
+            Call::ChangeReference { number, text, buffer, .. } => self.change(now, Target::Reference(*number), text, *buffer),
+            Call::ChangeName { number, text, buffer, .. } => self.change(now, Target::Name(*number), text, *buffer),
+        }
+    }
+
+    /// The checks 24, 25, 8, 27 and 34, and the change. 8 comes before the comparison with the old text (D21).
+    fn change(&mut self, now: &Facts, target: Target, text: &[u8], buffer: usize) -> Result<Outcome, Refusal> {
+        let old = match target {
+            Target::Reference(number) => reference_text(&now.module, number)?,
+            Target::Name(number) => name_text(&now.module, number)?,
+        };
+        if text.len() > TEXT_BYTES {
+            return Err((8, TEXT_BYTES as u32));
+        }
+        if old == text {
+            return Ok(Outcome { changed: Some(false), ..Outcome::default() });
+        }
+        // "lengths of all accepted changes since the load whose text differed from the old, plus this one, exceed
+        // 8,192".
+        let spent = self.room_spent + text.len();
+        if spent > ROOM_BYTES {
+            return Err((27, 0));
+        }
+        self.set(target, text);
+        match fitting(moved(&now.resolution, &self.reading.resolution()), buffer, MOVED_TOO_LONG) {
+            Ok(list) => {
+                self.room_spent = spent;
+                Ok(Outcome { changed: Some(true), list, ..Outcome::default() })
             }
-            Call::ChangeName { number, text, .. } => {
-                let old = name_text(&now.module, *number)?;
-                self.change(Target::Name(*number), old, text)
+            Err(refusal) => {
+                // "and nothing is changed": what would move is only known with the text set, so it is set back.
+                self.set(target, old);
+                Err(refusal)
             }
         }
     }
 
-    /// The checks 8 and 27, and the change. 8 comes before the comparison with the old text (D21).
-    fn change(&mut self, target: Target, old: &[u8], text: &[u8]) -> Result<Outcome, Refusal> {
-        if text.len() > TEXT_BYTES {
-            return Err((8, TEXT_BYTES as u32));
+    fn set(&mut self, target: Target, text: &[u8]) {
+        match target {
+            Target::Reference(number) => self.reading.set_reference(number, text),
+            Target::Name(number) => self.reading.set_name(number, text),
         }
-        let changed = old != text;
-        if changed {
-            // "lengths of all accepted changes since the load whose text differed from the old, plus this one, exceed
-            // 8,192".
-            let spent = self.room_spent + text.len();
-            if spent > ROOM_BYTES {
-                return Err((27, 0));
-            }
-            self.room_spent = spent;
-            match target {
-                Target::Reference(number) => self.reading.set_reference(number, text),
-                Target::Name(number) => self.reading.set_name(number, text),
-            }
-        }
-        Ok(Outcome { changed: Some(changed), ..Outcome::default() })
     }
 }
 
@@ -180,22 +197,22 @@ fn ask_reference(now: &Facts, number: ExprId, buffer: usize) -> Result<Outcome, 
         Answer::Withs(list) => list.clone(),
         _ => Vec::new(),
     };
-    let list = fitting(list, buffer)?;
+    let list = fitting(list, buffer, LIST_TOO_LONG)?;
     Ok(Outcome { answer: Some(answer), list, ..Outcome::default() })
 }
 
 /// "asking about a name gives its kept references there".
 fn ask_name(now: &Facts, number: NameId, buffer: usize) -> Result<Outcome, Refusal> {
     name_text(&now.module, number)?;
-    let list = fitting(now.resolution.references[number as usize].clone(), buffer)?;
+    let list = fitting(now.resolution.references[number as usize].clone(), buffer, LIST_TOO_LONG)?;
     Ok(Outcome { list, ..Outcome::default() })
 }
 
-/// 26: the buffer has fewer bytes than four times the list's length (D28), which an empty list never meets.
-fn fitting(list: Vec<u32>, buffer: usize) -> Result<Vec<u32>, Refusal> {
+/// 26 or 34: the buffer has fewer bytes than four times the list's length (D28), which an empty list never meets.
+fn fitting(list: Vec<u32>, buffer: usize, refusal: u32) -> Result<Vec<u32>, Refusal> {
     // Divided and not multiplied, so that no length can wrap.
     if buffer / 4 < list.len() {
-        return Err((26, list.len() as u32));
+        return Err((refusal, list.len() as u32));
     }
     Ok(list)
 }
@@ -224,15 +241,11 @@ impl fmt::Display for Outcome {
     fn fmt(&self, f: &mut fmt::Formatter<'_>) -> fmt::Result {
         let listed = || format!("length={} list={}", self.list.len(), commas(&self.list));
         match (self.refused, &self.answer, self.changed) {
-            (0, Some(answer), _) => write!(f, "{answer} {}", listed())?,
-            (0, None, Some(changed)) => write!(f, "changed={}", u8::from(changed))?,
-            (0, None, None) => write!(f, "{}", listed())?,
-            (refused, ..) => write!(f, "refused={refused} at={}", self.place)?,
+            (0, Some(answer), _) => write!(f, "{answer} {}", listed()),
+            (0, None, Some(changed)) => write!(f, "changed={} {}", u8::from(changed), listed()),
+            (0, None, None) => write!(f, "{}", listed()),
+            (refused, ..) => write!(f, "refused={refused} at={}", self.place),
         }
-        if f.alternate() {
-            write!(f, " moved={}", commas(&self.moved))?;
-        }
-        Ok(())
     }
 }
 

@@ -3,8 +3,8 @@
 //! ```text
 //! ask-ref N buffer=BYTES reply=BYTES
 //! ask-name N buffer=BYTES reply=BYTES
-//! set-ref N text=HEX reply=BYTES
-//! set-name N text=HEX reply=BYTES
+//! set-ref N text=HEX buffer=BYTES reply=BYTES
+//! set-name N text=HEX buffer=BYTES reply=BYTES
 //! ```
 //!
 //! `N` and `BYTES` are decimal, `HEX` is two digits a byte; the fields stand in this order. A `Call` is shown as such a
@@ -57,10 +57,11 @@ fn call(line: &str) -> Result<Call, String> {
         "set-ref" | "set-name" => {
             let number = number(words.next())?;
             let text = bytes(value("text", words.next())?)?;
+            let buffer = length("buffer", words.next())?;
             let reply = length("reply", words.next())?;
             match verb {
-                "set-ref" => Call::ChangeReference { number, text, reply },
-                _ => Call::ChangeName { number, text, reply },
+                "set-ref" => Call::ChangeReference { number, text, buffer, reply },
+                _ => Call::ChangeName { number, text, buffer, reply },
             }
         }
         _ => return Err(format!("`{verb}` is no call: ask-ref, ask-name, set-ref or set-name is wanted")),
@@ -104,8 +105,12 @@ impl fmt::Display for Call {
         match self {
             Call::AskReference { number, buffer, reply } => write!(f, "ask-ref {number} buffer={buffer} reply={reply}"),
             Call::AskName { number, buffer, reply } => write!(f, "ask-name {number} buffer={buffer} reply={reply}"),
-            Call::ChangeReference { number, text, reply } => write!(f, "set-ref {number} text={} reply={reply}", hex(text)),
-            Call::ChangeName { number, text, reply } => write!(f, "set-name {number} text={} reply={reply}", hex(text)),
+            Call::ChangeReference { number, text, buffer, reply } => {
+                write!(f, "set-ref {number} text={} buffer={buffer} reply={reply}", hex(text))
+            }
+            Call::ChangeName { number, text, buffer, reply } => {
+                write!(f, "set-name {number} text={} buffer={buffer} reply={reply}", hex(text))
+            }
         }
     }
 }

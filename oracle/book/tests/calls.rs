@@ -19,27 +19,27 @@ fn line_d_rename_rename_back_follow_again() {
     let lines = run(
         &mut book,
         "ask-ref 2 buffer=0 reply=20
-         set-name 0 text=63 reply=20   # a becomes c
+         set-name 0 text=63 buffer=4 reply=20   # a becomes c
          ask-ref 2 buffer=0 reply=20
          ask-name 0 buffer=0 reply=20
-         set-name 1 text=61 reply=20   # b becomes a
+         set-name 1 text=61 buffer=4 reply=20   # b becomes a
          ask-ref 2 buffer=0 reply=20
-         set-name 1 text=62 reply=20
-         set-name 0 text=61 reply=20   # and back
+         set-name 1 text=62 buffer=4 reply=20
+         set-name 0 text=61 buffer=4 reply=20   # and back
          ask-ref 2 buffer=0 reply=20
          ask-name 0 buffer=4 reply=20",
     );
     let expected = [
-        "answer=1 to=0 length=0 list= moved=",
-        "changed=1 moved=2",
-        "answer=0 to= length=0 list= moved=",
-        "length=0 list= moved=",
-        "changed=1 moved=2",
-        "answer=1 to=1 length=0 list= moved=",
-        "changed=1 moved=2",
-        "changed=1 moved=2",
-        "answer=1 to=0 length=0 list= moved=",
-        "length=1 list=2 moved=",
+        "answer=1 to=0 length=0 list=",
+        "changed=1 length=1 list=2",
+        "answer=0 to= length=0 list=",
+        "length=0 list=",
+        "changed=1 length=1 list=2",
+        "answer=1 to=1 length=0 list=",
+        "changed=1 length=1 list=2",
+        "changed=1 length=1 list=2",
+        "answer=1 to=0 length=0 list=",
+        "length=1 list=2",
     ];
     assert_eq!(lines, expected);
     let after = book.held();
@@ -52,19 +52,19 @@ fn the_hidden_bind_answers_once_the_field_is_changed() {
     let lines = run(
         &mut book,
         "ask-ref 0 buffer=0 reply=20
-         set-name 1 text=79 reply=20
+         set-name 1 text=79 buffer=4 reply=20
          ask-ref 0 buffer=0 reply=20
-         set-name 1 text=78 reply=20
+         set-name 1 text=78 buffer=4 reply=20
          ask-ref 0 buffer=0 reply=20
-         set-name 0 text=79 reply=20   # hidden: moves none",
+         set-name 0 text=79 buffer=4 reply=20   # hidden: moves none",
     );
     let expected = [
-        "answer=1 to=1 length=0 list= moved=",
-        "changed=1 moved=0",
-        "answer=1 to=0 length=0 list= moved=",
-        "changed=1 moved=0",
-        "answer=1 to=1 length=0 list= moved=",
-        "changed=1 moved=",
+        "answer=1 to=1 length=0 list=",
+        "changed=1 length=1 list=0",
+        "answer=1 to=0 length=0 list=",
+        "changed=1 length=1 list=0",
+        "answer=1 to=1 length=0 list=",
+        "changed=1 length=0 list=",
     ];
     assert_eq!(lines, expected);
 }
@@ -76,20 +76,20 @@ fn a_reference_becomes_a_builtin_and_a_with_list_returns() {
         &mut book,
         "ask-ref 2 buffer=8 reply=20
          ask-ref 2 buffer=7 reply=20
-         set-ref 2 text=6d6170 reply=20
+         set-ref 2 text=6d6170 buffer=4 reply=20
          ask-ref 2 buffer=0 reply=20
-         set-ref 2 text=63 reply=20
+         set-ref 2 text=63 buffer=4 reply=20
          ask-ref 2 buffer=9 reply=20
          ask-ref 0 buffer=0 reply=20",
     );
     let expected = [
-        "answer=3 to=3,4 length=2 list=3,4 moved=",
-        "refused=26 at=2 moved=",
-        "changed=1 moved=2",
-        "answer=2 to=14 length=0 list= moved=",
-        "changed=1 moved=2",
-        "answer=3 to=3,4 length=2 list=3,4 moved=",
-        "answer=0 to= length=0 list= moved=",
+        "answer=3 to=3,4 length=2 list=3,4",
+        "refused=26 at=2",
+        "changed=1 length=1 list=2",
+        "answer=2 to=14 length=0 list=",
+        "changed=1 length=1 list=2",
+        "answer=3 to=3,4 length=2 list=3,4",
+        "answer=0 to= length=0 list=",
     ];
     assert_eq!(lines, expected);
 }
@@ -103,39 +103,39 @@ fn the_order_of_checks() {
         &mut book,
         &format!(
             "ask-ref 99 buffer=0 reply=19
-             set-name 99 text={long} reply=0
+             set-name 99 text={long} buffer=0 reply=0
              ask-ref 99 buffer=0 reply=20
              ask-ref 4294967295 buffer=0 reply=20
              ask-ref 0 buffer=0 reply=20
              ask-ref 4 buffer=0 reply=20
              ask-name 2 buffer=0 reply=20
-             set-name 2 text={long} reply=20
-             set-ref 0 text={long} reply=20
-             set-ref 2 text={long} reply=20
-             set-name 0 text={long} reply=20
+             set-name 2 text={long} buffer=4 reply=20
+             set-ref 0 text={long} buffer=4 reply=20
+             set-ref 2 text={long} buffer=4 reply=20
+             set-name 0 text={long} buffer=4 reply=20
              ask-name 0 buffer=3 reply=20"
         ),
     );
     let expected = [
-        "refused=21 at=0 moved=",
-        "refused=21 at=0 moved=",
-        "refused=24 at=99 moved=",
-        "refused=24 at=4294967295 moved=",
-        "refused=25 at=0 moved=",
-        "refused=24 at=4 moved=",
-        "refused=24 at=2 moved=",
-        "refused=24 at=2 moved=",
-        "refused=25 at=0 moved=",
-        "refused=8 at=255 moved=",
-        "refused=8 at=255 moved=",
-        "refused=26 at=1 moved=",
+        "refused=21 at=0",
+        "refused=21 at=0",
+        "refused=24 at=99",
+        "refused=24 at=4294967295",
+        "refused=25 at=0",
+        "refused=24 at=4",
+        "refused=24 at=2",
+        "refused=24 at=2",
+        "refused=25 at=0",
+        "refused=8 at=255",
+        "refused=8 at=255",
+        "refused=26 at=1",
     ];
     assert_eq!(lines, expected);
     assert_eq!(book.held(), before);
 }
 
 fn change(text: Vec<u8>) -> Call {
-    Call::ChangeName { number: 0, text, reply: REPLY_BYTES }
+    Call::ChangeName { number: 0, text, buffer: 4, reply: REPLY_BYTES }
 }
 
 #[test]
@@ -153,7 +153,7 @@ fn a_loaded_text_of_256_bytes_set_to_itself_is_8() {
     let mut book = book(&format!(r#"21(11(28(18"{long}"),18"{long}"))"#));
     assert_eq!(book.call(&Call::AskReference { number: 0, buffer: 0, reply: 20 }).answer, Some(canon::Answer::Definition(0)));
     let name = book.call(&change(long.clone().into_bytes()));
-    let reference = book.call(&Call::ChangeReference { number: 0, text: long.into_bytes(), reply: 20 });
+    let reference = book.call(&Call::ChangeReference { number: 0, text: long.into_bytes(), buffer: 0, reply: 20 });
     assert_eq!([name.refused, name.place, reference.refused, reference.place], [8, 255, 8, 255]);
 }
 
@@ -177,7 +177,7 @@ fn room_of_8192_and_8193() {
     assert_eq!(book.held().room_spent, ROOM_BYTES);
     assert_eq!(book.call(&change(vec![b'z'])).refused, 27);
     // References and names spend the same room.
-    let reference = |text: &[u8]| Call::ChangeReference { number: 2, text: text.to_vec(), reply: 20 };
+    let reference = |text: &[u8]| Call::ChangeReference { number: 2, text: text.to_vec(), buffer: 4, reply: 20 };
     assert_eq!(book.call(&reference(b"z")).refused, 27);
     assert_eq!(book.call(&reference(b"a")).changed, Some(false));
 }
@@ -200,13 +200,16 @@ fn a_name_that_no_scope_holds_moves_none() {
     // `x: { a = x; }`: a is n1.
     let mut book = book(r#"21(11(28(18"x"),16(25(23(18"a"),18"x"))))"#);
     assert_eq!(book::locality::holding_scope(&book.facts().scopes, 1), None);
-    assert_eq!(run(&mut book, "set-name 1 text=78 reply=20\nask-name 1 buffer=0 reply=20"), ["changed=1 moved=", "length=0 list= moved="]);
+    assert_eq!(
+        run(&mut book, "set-name 1 text=78 buffer=4 reply=20\nask-name 1 buffer=0 reply=20"),
+        ["changed=1 length=0 list=", "length=0 list="]
+    );
 }
 
 #[test]
 fn what_is_held_follows_the_changes() {
     let mut book = book(HIDDEN);
-    run(&mut book, "set-ref 0 text=6d6170 reply=20\nset-name 0 text= reply=20");
+    run(&mut book, "set-ref 0 text=6d6170 buffer=4 reply=20\nset-name 0 text= buffer=4 reply=20");
     let held = book.held();
     assert_eq!(held.reference_texts.into_iter().collect::<Vec<_>>(), [(0, b"map".to_vec())]);
     assert_eq!(held.name_texts, [b"".to_vec(), b"x".to_vec()]);
@@ -217,7 +220,7 @@ fn what_is_held_follows_the_changes() {
 #[test]
 fn scripts_are_read_and_shown() {
     let text =
-        "ask-ref 7 buffer=12 reply=20\nask-name 0 buffer=0 reply=0\nset-ref 4294967295 text= reply=20\nset-name 3 text=00ff reply=20";
+        "ask-ref 7 buffer=12 reply=20\nask-name 0 buffer=0 reply=0\nset-ref 4294967295 text= buffer=4 reply=20\nset-name 3 text=00ff buffer=4 reply=20";
     let calls = script::parse(&format!("# a comment\n\n  {text} # another\n")).expect("a script");
     assert_eq!(calls.iter().map(Call::to_string).collect::<Vec<_>>().join("\n"), text);
     assert_eq!(script::parse(""), Ok(Vec::new()));
@@ -236,10 +239,12 @@ fn errors_of_scripts_say_where_and_what() {
         ("ask-ref 1 buffer= reply=20", "`` is no length in bytes for buffer"),
         ("ask-ref 1 buffer=1 reply=-1", "`-1` is no length in bytes for reply"),
         ("ask-ref 1 buffer=1 reply=99999999999999999999", "`99999999999999999999` is no length in bytes for reply"),
-        ("set-name 1 text=6 reply=20", "`6` has an odd number of hex digits"),
+        ("set-name 1 text=6 buffer=4 reply=20", "`6` has an odd number of hex digits"),
         ("set-name 1 text=é reply=20", "`é` is no hex text"),
-        ("set-name 1 text=61", "reply= is missing"),
-        ("set-name 1 text=61 reply=20 more", "`more` follows a finished call"),
+        ("set-name 1 text=61", "buffer= is missing"),
+        ("set-name 1 text=61 buffer=4", "reply= is missing"),
+        ("set-name 1 text=61 reply=20", "`reply=20` stands where buffer= is wanted"),
+        ("set-name 1 text=61 buffer=4 reply=20 more", "`more` follows a finished call"),
     ];
     for (line, wrong) in cases {
         let error = script::parse(&format!("# first\n{line}")).expect_err(line);

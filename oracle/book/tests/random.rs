@@ -30,7 +30,7 @@ fn random_script(rng: &mut Rng, nodes: &[Node], calls: usize) -> usize {
     let mut moved = 0;
     for _ in 0..calls {
         let (facts, held) = (book.facts(), book.held());
-        let call = book::random::call(rng, &facts, false);
+        let call = book::random::call(rng, &book, false);
         let outcome = book.call(&call);
         locality::check(&facts, &call, &outcome).unwrap();
         moved += outcome.moved.len();

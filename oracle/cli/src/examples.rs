@@ -106,26 +106,26 @@ pub const LINES: [Example; 7] = [
 /// Renames of `x: y: x`, each followed by what the use is tied to.
 const RENAMES: &str = "\
 # Line D on `x: y: x`: rename, rename back, follow again. Texts are in hex: 78 is x, 79 is y, 62617365 is base.
-ask-ref 0 buffer=0 reply=20        # n0
-ask-name 0 buffer=4 reply=20       # e0
+ask-ref 0 buffer=0 reply=20                 # n0
+ask-name 0 buffer=4 reply=20                # e0
 # x is renamed to base: its definition, then its use.
-set-name 0 text=62617365 reply=20
-ask-ref 0 buffer=0 reply=20        # none: the use still bears the old text
-set-ref 0 text=62617365 reply=20
-ask-ref 0 buffer=0 reply=20        # n0
+set-name 0 text=62617365 buffer=4 reply=20  # e0 moves
+ask-ref 0 buffer=0 reply=20                 # none: the use still bears the old text
+set-ref 0 text=62617365 buffer=4 reply=20   # e0 moves
+ask-ref 0 buffer=0 reply=20                 # n0
 # And back.
-set-name 0 text=78 reply=20
-set-ref 0 text=78 reply=20
-ask-ref 0 buffer=0 reply=20        # n0
-ask-name 0 buffer=4 reply=20       # e0
+set-name 0 text=78 buffer=4 reply=20        # e0 moves
+set-ref 0 text=78 buffer=4 reply=20         # e0 moves
+ask-ref 0 buffer=0 reply=20                 # n0
+ask-name 0 buffer=4 reply=20                # e0
 # y is renamed to x, which takes the use over, and back.
-set-name 1 text=78 reply=20
-ask-ref 0 buffer=0 reply=20        # n1
-ask-name 0 buffer=4 reply=20       # no use
-set-name 1 text=79 reply=20
-ask-ref 0 buffer=0 reply=20        # n0
-ask-name 0 buffer=4 reply=20       # e0
-ask-name 1 buffer=4 reply=20       # no use
+set-name 1 text=78 buffer=4 reply=20        # e0 moves
+ask-ref 0 buffer=0 reply=20                 # n1
+ask-name 0 buffer=4 reply=20                # no use
+set-name 1 text=79 buffer=4 reply=20        # e0 moves
+ask-ref 0 buffer=0 reply=20                 # n0
+ask-name 0 buffer=4 reply=20                # e0
+ask-name 1 buffer=4 reply=20                # no use
 ";
 
 /// How the folder's README.md begins.

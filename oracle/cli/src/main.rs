@@ -131,7 +131,7 @@ fn random_script(path: &str, seed: u64, count: u64) -> Result<Vec<u8>, String> {
     let mut rng = generate::Rng::new(seed);
     let mut script = String::new();
     for _ in 0..count {
-        let call = book::random::call(&mut rng, &book.facts(), seed % 8 == 1);
+        let call = book::random::call(&mut rng, &book, seed % 8 == 1);
         book.call(&call);
         script += &format!("{call}\n");
     }

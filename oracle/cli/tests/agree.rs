@@ -83,9 +83,9 @@ fn books_agree_on_scripts() {
             let loaded = both_facts(&nodes, &format!("script {seed}"));
             let (mut rust, mut plain) = (Book::new(Tix::new(&nodes)), Book::new(Plain::new(&nodes)));
             let mut rng = Rng::new(seed);
-            for turn in 0..80 {
+            for turn in 0..100 {
                 let before = plain.facts();
-                let call = book::random::call(&mut rng, &before, seed % 8 == 1);
+                let call = book::random::call(&mut rng, &plain, seed % 8 == 1);
                 let outcome: Outcome = rust.call(&call);
                 assert_eq!(outcome, plain.call(&call), "script {seed}, turn {turn}: {call}");
                 assert_eq!(rust.held(), plain.held(), "script {seed}, turn {turn}: {call}");
@@ -95,7 +95,7 @@ fn books_agree_on_scripts() {
             }
             assert_eq!(rust.facts().scopes, loaded.scopes, "scopes stay as loaded");
         }
-        assert_eq!(refused.into_iter().collect::<Vec<_>>(), [0, 8, 21, 24, 25, 26, 27]);
+        assert_eq!(refused.into_iter().collect::<Vec<_>>(), [0, 8, 21, 24, 25, 26, 27, 34]);
         assert!(moved > 2_000, "the scripts moved {moved} answers, too few to show anything");
     });
 }

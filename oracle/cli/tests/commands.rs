@@ -69,13 +69,20 @@ fn a_script_is_kept_in_the_book() {
     let folder = std::env::temp_dir().join(format!("oracle-commands-{}", std::process::id()));
     std::fs::create_dir_all(&folder).expect("a folder for the script");
     let script = folder.join("script");
-    let lines = "# rename, rename back, ask again\nset-name 0 text=79 reply=20\nask-ref 0 buffer=0 reply=20\n\
-                 set-name 0 text=78 reply=20\nask-ref 0 buffer=0 reply=20\nask-name 0 buffer=3 reply=20\nask-name 9 buffer=0 reply=20\n";
+    let lines = "# rename, rename back, ask again\nset-name 0 text=79 buffer=4 reply=20\nask-ref 0 buffer=0 reply=20\n\
+                 set-name 0 text=78 buffer=3 reply=20\nset-name 0 text=78 buffer=4 reply=20\nask-ref 0 buffer=0 reply=20\nask-name 0 buffer=3 reply=20\nask-name 9 buffer=0 reply=20\n";
     std::fs::write(&script, lines).expect("the script is written");
     let outcomes = printed(&["book", "-", script.to_str().expect("a plain path")], include_bytes!("../../../examples/lambda.sheet"));
     std::fs::remove_dir_all(&folder).expect("the folder goes");
-    let expected =
-        ["changed=1", "answer=0 to= length=0 list=", "changed=1", "answer=1 to=0 length=0 list=", "refused=26 at=1", "refused=24 at=9"];
+    let expected = [
+        "changed=1 length=1 list=0",
+        "answer=0 to= length=0 list=",
+        "refused=34 at=1",
+        "changed=1 length=1 list=0",
+        "answer=1 to=0 length=0 list=",
+        "refused=26 at=1",
+        "refused=24 at=9",
+    ];
     assert_eq!(outcomes.lines().collect::<Vec<_>>(), expected);
 }
 

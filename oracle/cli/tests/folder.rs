@@ -72,16 +72,16 @@ fn kids_follow_one_another() {
 fn a_script_says_what_comes_of_it() {
     let example = examples::all().find(|example| example.script.is_some()).expect("line D has a script");
     let mut book = book::Book::new(tix::Tix::new(&example.nodes().expect(example.name)));
-    for line in example.script.unwrap_or("").lines().filter(|line| line.starts_with("ask")) {
+    for line in example.script.unwrap_or("").lines().filter(|line| !line.starts_with('#')) {
         assert!(line.contains("  # "), "`{line}` does not say what comes of it");
     }
     let outcomes: Vec<String> = example.calls().expect(example.name).iter().map(|call| book.call(call).to_string()).collect();
-    let told = |line: &str| match line.split_once("# ").map(|(_, told)| told) {
-        Some(told) if told.starts_with("none") => "answer=0 to= length=0 list=".to_string(),
-        Some(told) if told.starts_with('n') && line.starts_with("ask-ref") => format!("answer=1 to={} length=0 list=", &told[1..]),
-        Some("no use") => "length=0 list=".to_string(),
-        Some(told) => format!("length=1 list={}", &told[1..]),
-        None => "changed=1".to_string(),
+    let told = |line: &str| match line.split_once("# ").map_or("", |(_, told)| told) {
+        told if told.starts_with("none") => "answer=0 to= length=0 list=".to_string(),
+        told if told.starts_with('n') && line.starts_with("ask-ref") => format!("answer=1 to={} length=0 list=", &told[1..]),
+        "no use" => "length=0 list=".to_string(),
+        told if line.starts_with("set") => format!("changed=1 length=1 list={}", &told[1..told.find(' ').unwrap_or(told.len())]),
+        told => format!("length=1 list={}", &told[1..]),
     };
     let lines = example.script.unwrap_or("").lines().filter(|line| !line.starts_with('#'));
     assert_eq!(outcomes, lines.map(told).collect::<Vec<_>>());

@@ -57,7 +57,8 @@ fn vector<'a>(input: &mut Reader<'a>) -> (&'a str, &'a [u8], Vec<usize>) {
         kinds.push(input.number("call"));
         assert!(input.number("number") <= u32::MAX as usize, "{title}");
         let lent = input.number("lent");
-        assert!(lent <= MOST_LENT && input.number("reply") <= MOST_REPLY, "{title}");
+        let moved = if kinds[kinds.len() - 1] < 2 { 0 } else { input.number("moved") };
+        assert!(lent <= MOST_LENT && moved <= MOST_LENT && input.number("reply") <= MOST_REPLY, "{title}");
         match kinds[kinds.len() - 1] {
             0 | 1 => {}
             2 | 3 => assert_eq!(input.bytes(lent + 1)[lent], b'\n', "{title}"),
@@ -90,7 +91,7 @@ fn outcome(output: &mut Reader, kind: usize) -> usize {
             output.value("to");
         }
         1 => drop(output.value("list")),
-        _ => assert_eq!(output.line(), "accepted"),
+        _ => drop(output.value("moved")),
     }
     0
 }
@@ -121,7 +122,7 @@ fn numbers_add_up() {
         }
     }
     assert!(output.0.is_empty());
-    assert_eq!(refused.into_iter().collect::<Vec<_>>(), [0, 2, 3, 4, 5, 6, 7, 8, 21, 24, 25, 26, 27, 31, 32, 33]);
+    assert_eq!(refused.into_iter().collect::<Vec<_>>(), [0, 2, 3, 4, 5, 6, 7, 8, 21, 24, 25, 26, 27, 31, 32, 33, 34]);
     assert_eq!(kinds_met.into_iter().collect::<Vec<_>>(), [0, 1, 2, 3]);
     all_that_should_be(&titles);
 }
@@ -132,6 +133,7 @@ fn all_that_should_be(titles: &BTreeSet<&str>) {
     assert_eq!(count("example: "), 12);
     assert!(count("trap: ") >= 4);
     ["line A: ", "line B: ", "line C: ", "line D: ", "line E: "].iter().for_each(|line| assert!(count(line) >= 2, "{line}"));
+    assert_eq!(count("moved: "), 7);
     (1..=33).for_each(|point| assert!(count(&format!("D{point}: ")) >= 1, "D{point}"));
     [3, 31, 32, 33].iter().for_each(|number| assert!(count(&format!("values: {number}, ")) >= 1, "{number}"));
     let causes = judge::Cause::all();

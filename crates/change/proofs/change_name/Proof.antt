@@ -17,10 +17,10 @@ same-length-2 c = search needs
 
 returns : tie.Need-returns
 unfolding replyOf
-returns c = stopped-changed (c .before .before .before .begin .ensures) (c .if1 .taken) _ refl
+returns c = stopped-changed (c .before .before .before .begin .ensures) (c .if1 .taken) _ refl _
 
 set-name-requires : tie.Need-set-name-requires
-set-name-requires c κs = rest-fits (c .before .before .before .before .before .begin .ensures) (c .before .before .if1 .left)
+set-name-requires c κs = rest-fits (c .before .before .before .before .before .before .begin .ensures) (c .before .before .before .if1 .left)
 
 same-length-3 : tie.Need-same-length-3
 same-length-3 c = search needs
@@ -28,8 +28,11 @@ same-length-3 c = search needs
 same-length-4 : tie.Need-same-length-4
 same-length-4 c = search needs
 
+same-length-5 : tie.Need-same-length-5
+same-length-5 c = search needs
+
 returns-2 : tie.Need-returns-2
-returns-2 c = rw (goes-on (c .before .before .before .before .before .before .before .before .before .before .begin .ensures) (c .before .before .before .before .before .before .before .if1 .left)) at (c .before .before .before .before .set-name .ensures)
+returns-2 c = rw (goes-on (c .before .before .before .before .before .before .before .before .before .before .before .before .before .begin .ensures) (c .before .before .before .before .before .before .before .before .before .before .if1 .left)) at (c .before .before .before .before .before .before .set-name .ensures)
 
 pub change-name-spec : {M : Type 1} → statement M
 change-name-spec =
@@ -42,4 +45,5 @@ change-name-spec =
     set-name-requires
     same-length-3
     same-length-4
+    same-length-5
     returns-2)

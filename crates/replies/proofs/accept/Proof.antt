@@ -11,7 +11,7 @@ same-length : tie.Need-same-length
 same-length c = search needs
 
 returns : tie.Need-returns
-returns c = done _ _ (c .before .before .before .before .before .pre) (c .before .before .put-five .ensures)
+returns c = done _ _ _ (c .before .before .before .before .before .pre) (c .before .before .put-five .ensures)
 
 pub accept-spec : {M : Type 1} → statement M
 accept-spec = tie.close (tie.spec put-five-requires same-length returns)

@@ -2,7 +2,7 @@
 -- or new text and reach it. Assumes nothing.
 use mathlib.Core.Path.{_≡_, refl, ap}
 use mathlib.Core.Logic.{_≢_}
-use mathlib.Core.Bool.{Bool, true, false, _||_}
+use mathlib.Core.Bool.{Bool, true, false, _||_, _&&_}
 use mathlib.Core.List.{List, [], _∷_}
 use mathlib.Core.Option.{Option, none, some}
 use Prim.Native.Nat.{ℕ, zero, suc, _+_, _<_, _≤_}
@@ -17,10 +17,10 @@ use Rattle.spec.specs.Basics.{Text, ExprId, NameId, ScopeId}
 use Rattle.spec.specs.Module.{Expr, missing, apply, ifThenElse, literal, lambda, letIn, list, binOp, attrSet, unaryOp, reference, select, hasAttr, withIn, assertIn, stringInterpolation, pathInterpolation, Made, Name, Module}
 use Rattle.spec.specs.Scopes.{Scope, Scopes, madeAt, exprAt, nameAt, isIn, holds, holder, holderFrom}
 use Rattle.spec.specs.Answer.{scopeAt, textOfName, referenceText, scopeOfExpr, answerOf, answer}
-use Rattle.spec.specs.Calls.{setName, setReference}
-use Rattle.spec.specs.Kept.{bears}
-use Rattle.spec.specs.Demand.{HeldOnce, within}
-use Rattle.spec.proofs.general.BoolLaws.{differ, neither, decided}
+use Rattle.spec.specs.Calls.{Place, atName, atReference, setName, setReference, setPlace}
+use Rattle.spec.specs.Moved.{bears, within, mayMove}
+use Rattle.spec.specs.Demand.{HeldOnce}
+use Rattle.spec.proofs.general.BoolLaws.{differ, neither}
 use Rattle.spec.proofs.change.Chain.{InReach, answerAt-same}
 
 -- what has a Reference's text is that Reference
@@ -80,17 +80,17 @@ name-equal m x =
 
 module _ (m : Module) (x : NameId) (t : Text) where
   -- past the names there is nothing to set
-  setName-past : length (m .names) ≤ x → setName x t m ≡ m
+  pub setName-past : length (m .names) ≤ x → setName x t m ≡ m
   unfolding setName
   setName-past h = rw (set-out (m .names) x)
 
   -- another name reads as it did
-  text-other : (y : NameId) → y ≢ x → textOfName (setName x t m) y ≡ textOfName m y
+  pub text-other : (y : NameId) → y ≢ x → textOfName (setName x t m) y ≡ textOfName m y
   unfolding textOfName nameAt setName
   text-other y h = ap (λ (d : Name). d .text) (getD-set-other (m .names) x y _ _ h)
 
   -- the name reads as it was set
-  text-set : x < length (m .names) → textOfName (setName x t m) x ≡ t
+  pub text-set : x < length (m .names) → textOfName (setName x t m) x ≡ t
   unfolding textOfName nameAt setName
   text-set h = ap (λ (d : Name). d .text) (getD-set-same (m .names) x _ _ h)
 
@@ -171,12 +171,18 @@ module _ (w : Scopes) (once : HeldOnce w) where
           let same = once x (h .0) (r .0) (holds-within x (w .scopes) (h .0) (h .1)) (holds-within x (w .scopes) (r .0) (r .2)) (h .1) (r .2) in
           rw (h .2, zero-add, same) (r .1)
 
-  -- THEOREM. A changed name moves only answers of References that bear its old or new text and whose scope is the
-  -- name's scope or inside it.
-  pub name-moves : (m : Module) (x : NameId) (t : Text) (e : ExprId) → answer (setName x t m) w e ≢ answer m w e
-      → (bears (nameAt m x .text) (referenceText (exprAt m e)) || bears t (referenceText (exprAt m e)) ≡ true)
-      × (within w (holder w x) (scopeOfExpr w e) ≡ true)
-  name-moves m x t e moved = (
-    decided _ (λ p. moved (unborne-stays m x t w e p)),
-    decided _ (λ p. moved (unreached-stays m x t w e (λ r. differ (cc (reached-within x (scopeOfExpr w e) r))))),
-  )
+  -- THEOREM. A changed text moves only what it may: that of a Reference its own answer, that of a name answers of
+  -- References that bear its old or new text and whose scope is the name's scope or inside it.
+  pub place-stays : (m : Module) (p : Place) (t : Text) (e : ExprId) → mayMove m w p t e ≡ false → answer (setPlace t p m) w e ≡ answer m w e
+  unfolding mayMove
+  place-stays m (atReference n) t e h = reference-moves-itself m n t w e (eqb-false e n h)
+  place-stays m (atName x) t e h = go (bears (nameAt m x .text) u || bears t u) (within w (holder w x) (scopeOfExpr w e)) refl refl h
+    where
+      u : Option Text
+      u = referenceText (exprAt m e)
+
+      go : (a b : Bool) → bears (nameAt m x .text) u || bears t u ≡ a → within w (holder w x) (scopeOfExpr w e) ≡ b → a && b ≡ false
+          → answer (setName x t m) w e ≡ answer m w e
+      go true true p q r = differ r
+      go true false p q r = unreached-stays m x t w e (λ i. differ (cc (reached-within x (scopeOfExpr w e) i)))
+      go false b p q r = unborne-stays m x t w e p

@@ -34,6 +34,23 @@ unfolding tabulate
 tabulate-same f g h i [] = refl
 tabulate-same f g h i (x ∷ xs) = let p = h i in let q = tabulate-same f g h (suc i) xs in cc
 
+-- it is enough that they agree on what is listed
+pub tabulate-within : {A B : Type 0} (f g : ℕ → B) (i : ℕ) (xs : List A) → ((j : ℕ) → j < length xs → f (i + j) ≡ g (i + j)) → tabulate f i xs ≡ tabulate g i xs
+unfolding tabulate
+tabulate-within f g i [] h = refl
+tabulate-within f g i (x ∷ xs) h =
+    let p : f i ≡ g i = rw add-zero at (h 0 (omega arith)) in
+    let q = tabulate-within f g (suc i) xs (λ j l. rw (suc-add, ← add-suc) (h (suc j) (omega arith))) in
+    cc
+
+-- of the items only their number counts
+pub tabulate-length : {A B : Type 0} (f : ℕ → B) (i : ℕ) (xs ys : List A) → length xs ≡ length ys → tabulate f i xs ≡ tabulate f i ys
+unfolding tabulate
+tabulate-length f i [] [] h = refl
+tabulate-length f i [] (y ∷ ys) h = absurd (omega arith)
+tabulate-length f i (x ∷ xs) [] h = absurd (omega arith)
+tabulate-length f i (x ∷ xs) (y ∷ ys) h = let q = tabulate-length f (suc i) xs ys (omega arith) in cc
+
 -- the value at a place of the list
 pub getD-tabulate : {A B : Type 0} (f : ℕ → B) (d : B) (i : ℕ) (xs : List A) (n : ℕ) → n < length xs → getD (tabulate f i xs) n d ≡ f (i + n)
 unfolding tabulate

@@ -2,7 +2,7 @@
 -- With n at most 4,096 nodes these are 16,384 expressions, 8,192 list items (of 32,768 that there is room for), 16,384
 -- kid places, 524,288 bytes of text, and 4,096 of everything else.
 use mathlib.Core.Path.{_≡_, refl, sym, ap, _∙_}
-use mathlib.Core.Bool.{Bool, true, false, _&&_, not}
+use mathlib.Core.Bool.{Bool, true, false}
 use mathlib.Core.List.{List}
 use mathlib.Core.Option.{none}
 use Prim.Native.Nat.{ℕ, _*_, _≤_}
@@ -15,8 +15,9 @@ use Rattle.spec.specs.Module.{missing, reference, Made, Module}
 use Rattle.spec.specs.Lower.{lowerModule}
 use Rattle.spec.specs.Scopes.{exprAt, madeAt}
 use Rattle.spec.specs.Answer.{referenceText}
-use Rattle.spec.specs.Calls.{Condition, fit, Call, askReference, askName, changeReference, changeName, isAccepted, oldText, newText, withText, setReference, setName}
-use Rattle.spec.specs.Kept.{Kept, keptOf, loaded, keptAnswer, keptReferences, keptOutcome, changedTo, keptWith, keptAfter}
+use Rattle.spec.specs.Calls.{Condition, fit, Call, askReference, askName, changeReference, changeName, isAccepted, oldText, newText, setReference, setName}
+use Rattle.spec.specs.Kept.{Kept, keptOf, loaded, keptAnswer, keptReferences, changedTo, keptWith, changed, keptMoved, keptOutcome, keptAfter}
+use Rattle.spec.specs.Demand.{HeldOnce}
 use Rattle.spec.proofs.change.Locality.{is-reference}
 use Rattle.spec.proofs.change.Incremental.{Afresh, reference-there, reference-known, stays-afresh}
 use Rattle.spec.proofs.change.Demand3.{loaded-afresh}
@@ -111,14 +112,14 @@ record SameCounts (m m′ : Module) : Type 0 where
 same-counts : (m : Module) → SameCounts m m
 same-counts m = record { exprs = refl; names = refl; diagnostics = refl; lost = refl; items = refl; referring = refl }
 
-text-counts : (c : Condition) (k : Kept) (call : Call) → isAccepted (keptOutcome c k call) ≡ true → SameCounts (k .lowered) (withText (k .lowered) call)
-unfolding withText newText setReference setName keptOutcome madeAt exprAt referenceText
-text-counts c k (askReference n buffer reply) h = same-counts (k .lowered)
-text-counts c k (askName n buffer reply) h = same-counts (k .lowered)
-text-counts c k (changeReference n t reply) h =
+with-counts : (c : Condition) (k : Kept) (call : Call) → isAccepted (keptOutcome c k call) ≡ true → SameCounts (k .lowered) (keptWith k call .lowered)
+unfolding keptWith changedTo setReference setName keptOutcome madeAt exprAt referenceText
+with-counts c k (askReference n buffer reply) h = same-counts (k .lowered)
+with-counts c k (askName n buffer reply) h = same-counts (k .lowered)
+with-counts c k (changeReference n t buffer reply) h =
     let m = k .lowered in
-    let there = reference-there m (keptAnswer k) (keptReferences k) (k .spent) c n t reply h in
-    let known = reference-known m (keptAnswer k) (keptReferences k) (k .spent) c n t reply h in
+    let there = reference-there m (keptAnswer k) (keptReferences k) (k .spent) (keptMoved k) c n t buffer reply h in
+    let known = reference-known m (keptAnswer k) (keptReferences k) (k .spent) (keptMoved k) c n t buffer reply h in
     let was : at (m .exprs) n ≡ reference (known .0) = is-reference (at (m .exprs) n) (known .0) (known .1) in
     let d : Made = record { expr = reference t; pointer = madeAt m n .pointer } in
     let none-there : Made = record { expr = missing; pointer = none } in
@@ -127,22 +128,29 @@ text-counts c k (changeReference n t reply) h =
     let p : itemsIn (at (m .exprs) n) ≡ 0 = rw was in
     let q : referring (at (m .exprs) n) ≡ 1 = rw was in
     record { exprs = length-set (m .exprs) n d; names = refl; diagnostics = refl; lost = refl; items = omega arith; referring = omega arith }
-text-counts c k (changeName x t reply) h =
+with-counts c k (changeName x t buffer reply) h =
     record { exprs = refl; names = length-set (k .lowered .names) x _; diagnostics = refl; lost = refl; items = refl; referring = refl }
 
+with-scopes : (k : Kept) (call : Call) → keptWith k call .scopes ≡ k .scopes
+unfolding keptWith changedTo
+with-scopes k (askReference n buffer reply) = refl
+with-scopes k (askName n buffer reply) = refl
+with-scopes k (changeReference n t buffer reply) = refl
+with-scopes k (changeName x t buffer reply) = refl
+
 after-counts : (c : Condition) (k : Kept) (call : Call) → SameCounts (k .lowered) (keptAfter c k call .lowered) × (keptAfter c k call .scopes ≡ k .scopes)
-unfolding keptAfter keptWith changedTo
-after-counts c k call = go (isAccepted (keptOutcome c k call)) (equalb (oldText (k .lowered) call) (newText call)) refl
+unfolding keptAfter changed
+after-counts c k call = go (isAccepted (keptOutcome c k call)) (equalb (oldText (k .lowered) call) (newText call)) refl refl
   where
-    go : (a b : Bool) → isAccepted (keptOutcome c k call) ≡ a
-        → SameCounts (k .lowered) (keptWith k call (a && not b) .lowered) × (keptWith k call (a && not b) .scopes ≡ k .scopes)
-    go true true p = (same-counts (k .lowered), refl)
-    go true false p = (text-counts c k call p, refl)
-    go false b p = (same-counts (k .lowered), refl)
+    go : (a b : Bool) → isAccepted (keptOutcome c k call) ≡ a → equalb (oldText (k .lowered) call) (newText call) ≡ b
+        → SameCounts (k .lowered) (keptAfter c k call .lowered) × (keptAfter c k call .scopes ≡ k .scopes)
+    go true true p q = rw (p, q) (same-counts (k .lowered), refl)
+    go true false p q = rw (p, q) (with-counts c k call p, with-scopes k call)
+    go false b p q = rw p (same-counts (k .lowered), refl)
 
 -- THEOREM. No call needs more room than the load did.
-pub after-room : (n : ℕ) (k : Kept) → Afresh k → (call : Call) → KeptRoom n k → KeptRoom n (keptAfter fit k call)
-after-room n k fresh call room =
+pub after-room : (n : ℕ) (k : Kept) → Afresh k → HeldOnce (k .scopes) → (call : Call) → KeptRoom n k → KeptRoom n (keptAfter fit k call)
+after-room n k fresh once call room =
     let z = after-counts fit k call in
     let m = z .0 in
     record {
@@ -154,5 +162,5 @@ after-room n k fresh call room =
       referring = omega (arith, m .referring, room .referring);
       scopes = rw (z .1) (room .scopes);
       entered = rw (z .1, m .names) (room .entered);
-      references = references-room (keptAfter fit k call) (stays-afresh k fresh call);
+      references = references-room (keptAfter fit k call) (stays-afresh k fresh once call);
     }

@@ -1,7 +1,7 @@
 -- What a store keeps is sound (docs/RULES.md, "The condition of a store"), after a load and after every call: no number
 -- outside its list, child expressions below their parents, parent scopes below their children. Assumes nothing.
 use mathlib.Core.Path.{_≡_, refl, sym, ap, subst, _∙_}
-use mathlib.Core.Bool.{Bool, true, false, _||_, _&&_, not}
+use mathlib.Core.Bool.{Bool, true, false}
 use mathlib.Core.List.{List, [], _∷_, _++_}
 use mathlib.Core.Option.{Option, none, some}
 use Prim.Native.Nat.{ℕ, suc, _+_, _<_}
@@ -19,8 +19,9 @@ use Rattle.spec.specs.Module.{BindingValue, expr, inherit, inheritFrom, 
 use Rattle.spec.specs.Lower.{lowerModule}
 use Rattle.spec.specs.Scopes.{ScopeKind, definitions, withExpr, Scope, Scopes, oneOrNone, ifInherited, inherited, ifPlain, plainValues, keysAndValues, Form, function, withBody, bound, through, form, exprAt, madeAt, scopesOf}
 use Rattle.spec.specs.Answer.{Answer, unresolved, definition, builtin, withs, builtins, indexFrom, scopeAt, chain, lastWith, definedIn, innermost, ifWith, withsOf, someWiths, afterBuiltins, afterDefinitions, answerIn, answerAt, answerOf, answer, means, referenceText, referencesFrom, references}
-use Rattle.spec.specs.Calls.{Condition, Call, askReference, askName, changeReference, changeName, isAccepted, oldText, newText, withText, setReference, setName}
-use Rattle.spec.specs.Kept.{Kept, tabulate, answersAfresh, referencesAfresh, keptOf, loaded, keptAnswer, keptReferences, keptOutcome, resolvedAgain, answeredWith, changedTo, keptWith, keptAfter, bears}
+use Rattle.spec.specs.Calls.{Condition, Call, askReference, askName, changeReference, changeName, isAccepted, Place, atName, atReference, oldText, newText, setReference, setName, setPlace}
+use Rattle.spec.specs.Moved.{mayMove}
+use Rattle.spec.specs.Kept.{Kept, tabulate, answersAfresh, referencesAfresh, keptOf, loaded, keptAnswer, keptReferences, resolvedAgain, movedBy, answeredWith, listedAgain, changedTo, keptWith, changed, keptMoved, keptOutcome, keptAfter}
 use Rattle.spec.proofs.general.ListLaws.{length-tabulate}
 use Rattle.spec.proofs.general.Sums.{All, all-append, all-left, all-right, all-map, compared, all-getD}
 use Rattle.spec.proofs.once.Once.{walkedBy}
@@ -291,58 +292,80 @@ record SameLists (k : Kept) (m : Module) : Type 0 where
   rows : (e : ExprId) → Row (length (k .lowered .names)) e (m .exprs) (form (exprAt m e))
 
 -- what is resolved again is in range, and so is what was kept
-resolved-in : (k : Kept) → Sound k → (m : Module) (old new : Text) (e : ExprId)
-    → All (AnswerIn (length (k .lowered .names)) (length (k .lowered .exprs))) (oneOrNone (resolvedAgain m (k .scopes) (keptAnswer k) old new e))
+resolved-in : (k : Kept) → Sound k → (p : Place) (t : Text) (e : ExprId)
+    → All (AnswerIn (length (k .lowered .names)) (length (k .lowered .exprs))) (oneOrNone (resolvedAgain k p t e))
 unfolding resolvedAgain keptAnswer oneOrNone
-resolved-in k sound m old new e = go (bears old (referenceText (exprAt m e)) || bears new (referenceText (exprAt m e)))
+resolved-in k sound p t e = go (mayMove (k .lowered) (k .scopes) p t e)
   where
-    go : (b : Bool) → All (AnswerIn (length (k .lowered .names)) (length (k .lowered .exprs))) (oneOrNone (pick b (answer m (k .scopes) e) (getD (k .answers) e none)))
-    go true = answer-in _ _ (k .scopes) (kinds-in _ _ (k .scopes) (sound .scopes)) m e
+    go : (b : Bool) → All (AnswerIn (length (k .lowered .names)) (length (k .lowered .exprs))) (oneOrNone (pick b (answer (setPlace t p (k .lowered)) (k .scopes) e) (getD (k .answers) e none)))
+    go true = answer-in _ _ (k .scopes) (kinds-in _ _ (k .scopes) (sound .scopes)) (setPlace t p (k .lowered)) e
     go false = all-getD _ (k .answers) e none tt (sound .answers)
 
-changed-sound : (k : Kept) → Sound k → (m : Module) (old new : Text) (spent : ℕ) → SameLists k m → Sound (changedTo k m old new spent)
+-- the references, listed anew or not
+listed-many : (k : Kept) → Sound k → (again : List (Option Answer)) (es : List ExprId) → length (listedAgain k again es) ≡ length (k .lowered .names)
+unfolding listedAgain
+listed-many k sound again [] = sound .referred
+listed-many k sound again (e ∷ es) = length-tabulate _ 0 (k .lowered .names)
+
+listed-in : (k : Kept) → Sound k → (again : List (Option Answer)) → length again ≡ length (k .lowered .exprs) → (es : List ExprId)
+    → All (AllBelow (length (k .lowered .exprs))) (listedAgain k again es)
+unfolding listedAgain
+listed-in k sound again l [] = sound .references
+listed-in k sound again l (e ∷ es) =
+    all-tabulate _ _ (λ x. all-map _ _ (λ c h. omega arith) (answeredWith x 0 again) (answered-below x 0 again)) 0 (k .lowered .names)
+
+changed-sound : (k : Kept) → Sound k → (p : Place) (t : Text) → SameLists k (setPlace t p (k .lowered)) → Sound (changedTo k p t)
 unfolding changedTo
-changed-sound k sound m old new spent same =
-    let again = tabulate (resolvedAgain m (k .scopes) (keptAnswer k) old new) 0 (m .exprs) in
-    let l = length-tabulate (resolvedAgain m (k .scopes) (keptAnswer k) old new) 0 (m .exprs) in
+changed-sound k sound p t same =
+    let again = tabulate (resolvedAgain k p t) 0 (k .lowered .exprs) in
+    let l = length-tabulate (resolvedAgain k p t) 0 (k .lowered .exprs) in
     record {
       entry = rw (same .entry, same .exprs) (sound .entry);
       children = same .children;
       rows = rw (same .names) (same .rows);
       scopes = rw (same .names, same .exprs) (sound .scopes);
-      answered = l;
-      answers = rw (same .names, same .exprs) (all-tabulate _ _ (resolved-in k sound m old new) 0 (m .exprs));
-      referred = length-tabulate _ 0 (m .names);
-      references = all-tabulate _ _ (λ x. all-map _ _ (λ c h. omega arith) (answeredWith x 0 again) (answered-below x 0 again)) 0 (m .names);
+      answered = l ∙ sym (same .exprs);
+      answers = rw (same .names, same .exprs) (all-tabulate _ _ (resolved-in k sound p t) 0 (k .lowered .exprs));
+      referred = listed-many k sound again (movedBy k p t) ∙ sym (same .names);
+      references = rw (same .exprs) (listed-in k sound again l (movedBy k p t));
     }
 
 -- the text that an accepted call sets
-text-same : (c : Condition) (k : Kept) → Sound k → (call : Call) → isAccepted (keptOutcome c k call) ≡ true → SameLists k (withText (k .lowered) call)
-unfolding withText newText setReference setName exprAt madeAt keptOutcome
-text-same c k sound (askReference n buffer reply) h = record { exprs = refl; names = refl; entry = refl; children = sound .children; rows = sound .rows }
-text-same c k sound (askName n buffer reply) h = record { exprs = refl; names = refl; entry = refl; children = sound .children; rows = sound .rows }
-text-same c k sound (changeReference n t reply) h =
+reference-same : (k : Kept) → Sound k → (n : ExprId) (t u : Text) → n < length (k .lowered .exprs) → referenceText (exprAt (k .lowered) n) ≡ some u
+    → SameLists k (setReference n t (k .lowered))
+unfolding setReference exprAt madeAt
+reference-same k sound n t u there known =
     let m = k .lowered in
-    let there = reference-there m (keptAnswer k) (keptReferences k) (k .spent) c n t reply h in
-    let known = reference-known m (keptAnswer k) (keptReferences k) (k .spent) c n t reply h in
-    let was : at (m .exprs) n ≡ reference (known .0) = is-reference (at (m .exprs) n) (known .0) (known .1) in
+    let was : at (m .exprs) n ≡ reference u = is-reference (at (m .exprs) n) u known in
     let d : Made = record { expr = reference t; pointer = madeAt m n .pointer } in
     record {
       exprs = length-set (m .exprs) n _;
       names = refl;
       entry = refl;
-      children = children-set (m .exprs) n d t (known .0) there was refl (sound .children);
-      rows = rows-set (m .exprs) n d t (known .0) there was refl (length (m .names)) (sound .rows);
+      children = children-set (m .exprs) n d t u there was refl (sound .children);
+      rows = rows-set (m .exprs) n d t u there was refl (length (m .names)) (sound .rows);
     }
-text-same c k sound (changeName x t reply) h =
-    record { exprs = refl; names = length-set (k .lowered .names) x _; entry = refl; children = sound .children; rows = sound .rows }
+
+name-same : (k : Kept) → Sound k → (x : NameId) (t : Text) → SameLists k (setName x t (k .lowered))
+unfolding setName exprAt madeAt
+name-same k sound x t = record { exprs = refl; names = length-set (k .lowered .names) x _; entry = refl; children = sound .children; rows = sound .rows }
+
+with-sound : (c : Condition) (k : Kept) → Sound k → (call : Call) → isAccepted (keptOutcome c k call) ≡ true → Sound (keptWith k call)
+unfolding keptWith keptOutcome
+with-sound c k sound (askReference n buffer reply) h = sound
+with-sound c k sound (askName n buffer reply) h = sound
+with-sound c k sound (changeReference n t buffer reply) h =
+    let there = reference-there (k .lowered) (keptAnswer k) (keptReferences k) (k .spent) (keptMoved k) c n t buffer reply h in
+    let known = reference-known (k .lowered) (keptAnswer k) (keptReferences k) (k .spent) (keptMoved k) c n t buffer reply h in
+    changed-sound k sound (atReference n) t (reference-same k sound n t (known .0) there (known .1))
+with-sound c k sound (changeName x t buffer reply) h = changed-sound k sound (atName x) t (name-same k sound x t)
 
 -- THEOREM. Every call leaves what is sound sound, however it finds the store.
 pub after-sound : (c : Condition) (k : Kept) (call : Call) → Sound k → Sound (keptAfter c k call)
-unfolding keptAfter keptWith
-after-sound c k call sound = go (isAccepted (keptOutcome c k call)) (equalb (oldText (k .lowered) call) (newText call)) refl
+unfolding keptAfter changed
+after-sound c k call sound = go (isAccepted (keptOutcome c k call)) (equalb (oldText (k .lowered) call) (newText call)) refl refl
   where
-    go : (a b : Bool) → isAccepted (keptOutcome c k call) ≡ a → Sound (keptWith k call (a && not b))
-    go true true p = sound
-    go true false p = changed-sound k sound _ _ _ _ (text-same c k sound call p)
-    go false b p = sound
+    go : (a b : Bool) → isAccepted (keptOutcome c k call) ≡ a → equalb (oldText (k .lowered) call) (newText call) ≡ b → Sound (keptAfter c k call)
+    go true true p q = rw (p, q) sound
+    go true false p q = rw (p, q) (with-sound c k sound call p)
+    go false b p q = rw p sound

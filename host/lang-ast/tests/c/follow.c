@@ -71,13 +71,19 @@ static void ask(const uint8_t *store, uint32_t use, uint32_t name) {
     said("ask the name", lang_ast_ask_name(store, LANG_AST_STORE_BYTES, name, buffer, sizeof buffer, reply, sizeof reply));
 }
 
+/* Gives a name a text, in a buffer of so many bytes for what that moves. */
+static void change_name(const char *step, uint8_t *store, uint32_t name, const char *text, size_t length, size_t moved_length) {
+    said(step, lang_ast_change_name(store, LANG_AST_STORE_BYTES, name, (const uint8_t *)text, length, buffer, moved_length, reply,
+                                    sizeof reply));
+}
+
 /* Nothing is lent: the pointers of empty slices are not looked at. */
 static void lend_nothing(void) {
     printf("nothing lent: %u %u %u %u %u\n", (unsigned)lang_ast_load(NULL, 0, NULL, 0, NULL, 0),
            (unsigned)lang_ast_ask_reference(NULL, 0, 0, NULL, 0, NULL, 0),
            (unsigned)lang_ast_ask_name(NULL, 0, 0, NULL, 0, NULL, 0),
-           (unsigned)lang_ast_change_reference(NULL, 0, 0, NULL, 0, NULL, 0),
-           (unsigned)lang_ast_change_name(NULL, 0, 0, NULL, 0, NULL, 0));
+           (unsigned)lang_ast_change_reference(NULL, 0, 0, NULL, 0, NULL, 0, NULL, 0),
+           (unsigned)lang_ast_change_name(NULL, 0, 0, NULL, 0, NULL, 0, NULL, 0));
 }
 
 int main(int count, char **words) {
@@ -102,12 +108,15 @@ int main(int count, char **words) {
     show_place(store, name);
     ask(store, use, name);
     printf("first use: e%u\n", (unsigned)lang_ast_word(buffer, 0));
-    said("name it y", lang_ast_change_name(store, LANG_AST_STORE_BYTES, name, (const uint8_t *)"y", 1, reply, sizeof reply));
+    change_name("name it y in too short a buffer", store, name, "y", 1, 3);
+    change_name("name it x, which it is, in none", store, name, "x", 1, 0);
+    change_name("name it y", store, name, "y", 1, sizeof buffer);
+    printf("first moved: e%u\n", (unsigned)lang_ast_word(buffer, 0));
     ask(store, use, name);
-    said("use y", lang_ast_change_reference(store, LANG_AST_STORE_BYTES, use, (const uint8_t *)"y", 1, reply, sizeof reply));
+    said("use y", lang_ast_change_reference(store, LANG_AST_STORE_BYTES, use, (const uint8_t *)"y", 1, buffer, 4, reply, sizeof reply));
     ask(store, use, name);
     said("ask without a buffer", lang_ast_ask_name(store, LANG_AST_STORE_BYTES, name, NULL, 0, reply, sizeof reply));
-    said("name it nothing", lang_ast_change_name(store, LANG_AST_STORE_BYTES, name, NULL, 0, reply, sizeof reply));
+    change_name("name it nothing", store, name, NULL, 0, 4);
     free(store);
     return 0;
 }

@@ -1,19 +1,20 @@
-//! What an accepted change leaves in any sound store, as docs/STORE.md says it: the new text behind those in use, other
-//! answers and references, words in the table of items that wait, and nothing else. The References that bear the old or
-//! the new text have the answer that the rule of docs/RULES.md gives over the store's scopes; what no load makes may
+//! What an accepted change leaves in any sound store, as docs/STORE.md says it: the new text behind those in use; where
+//! an answer moved, other answers and references, and words in the table of items that wait; and nothing else. What is
+//! resolved again has the answer that the rule of docs/RULES.md gives over the store's scopes; what no load makes may
 //! hold other answers, and those stay.
 
 use crate::store::asked::text_of;
 use crate::store::layout::{get, header, KEPT, REFERENCES, TEXTS, USES, WAITING};
 use crate::store::module::{Answer, Expr, Module};
-use crate::store::{page, resolve, sound};
+use crate::store::moves::{self, Moves, Place};
+use crate::store::{page, sound};
 use std::ops::Range;
 
 /// Where the words for names begin in the table of items that wait.
 const LINKS: usize = 2_654_308;
 
-/// Whether the store is as a change leaves it that set the text whose number stands at `at`.
-pub fn change(before: &[u8], now: &[u8], at: usize, text: &[u8]) -> Result<(), String> {
+/// Whether the store is as a change leaves it that set the text of a place, whose number stands at `at`.
+pub fn change(before: &[u8], now: &[u8], at: usize, place: Place, text: &[u8]) -> Result<(), String> {
     let length = text.len() as u32;
     let placed = if text.is_empty() { 0 } else { 4 + length };
     let (used, spent) = (get(before, header::TEXTS), get(before, header::SPENT));
@@ -23,24 +24,25 @@ pub fn change(before: &[u8], now: &[u8], at: usize, text: &[u8]) -> Result<(), S
     if text_of(now, get(now, at)) != text {
         return Err("the text is not the new one".to_string());
     }
-    if let Some(place) = written_outside(before, now, &mut writable(before, at, used, placed)) {
-        return Err(format!("byte {place} of the store was written"));
+    let moves = moves::by(&page::read(before)?, place, text);
+    let mut runs = vec![header::SPENT..header::TEXTS + 4, at..at + 4, TEXTS + used as usize..TEXTS + (used + placed) as usize];
+    if !moves.moved.is_empty() {
+        runs.extend(writable_where_moved(before));
+    }
+    if let Some(byte) = written_outside(before, now, &mut runs) {
+        return Err(format!("byte {byte} of the store was written; {} answers moved", moves.moved.len()));
     }
     match sound::condition(now) {
-        0 => answers(&page::read(before)?, &page::read(now)?, text_of(before, get(before, at)), text),
+        0 if moves.moved.is_empty() => Ok(()),
+        0 => answers(&page::read(now)?, &moves),
         number => Err(format!("the store that a change left is {number}")),
     }
 }
 
-/// Whether answers and references are as a change from one text to the other leaves them.
-fn answers(before: &Module, now: &Module, old: &[u8], new: &[u8]) -> Result<(), String> {
+/// Whether answers and references are as a change leaves them that moved some.
+fn answers(now: &Module, moves: &Moves) -> Result<(), String> {
     let mut kept = vec![Vec::new(); now.names.len()];
-    for (e, placed) in now.exprs.iter().enumerate() {
-        let afresh = match placed.expr {
-            Expr::Reference(text) if text == old || text == new => resolve::answer(now, e),
-            _ => None,
-        };
-        let right = afresh.unwrap_or(before.exprs[e].answer);
+    for ((e, placed), &right) in now.exprs.iter().enumerate().zip(&moves.answers) {
         if placed.answer != right {
             return Err(format!("the answer of e{e} is {:?} and not {right:?}", placed.answer));
         }
@@ -59,19 +61,15 @@ fn answers(before: &Module, now: &Module, old: &[u8], new: &[u8]) -> Result<(), 
     Ok(())
 }
 
-/// What a change may write.
-fn writable(before: &[u8], at: usize, used: u32, placed: u32) -> Vec<Range<usize>> {
+/// What a change may write beside the text and the room: answers, and the references that are listed from them anew.
+fn writable_where_moved(before: &[u8]) -> Vec<Range<usize>> {
     let (exprs, names) = (get(before, header::EXPRS) as usize, get(before, header::NAMES) as usize);
-    let end = TEXTS + used as usize;
     let mut all: Vec<Range<usize>> = (0..exprs).map(|e| USES.word(e, 1)..USES.word(e, 2)).collect();
     all.extend([
-        header::SPENT..header::TEXTS + 4,
-        at..at + 4,
         REFERENCES.word(0, 0)..REFERENCES.word(names + 1, 0),
         KEPT.word(0, 0)..KEPT.word(KEPT.limit, 0),
         WAITING.at..WAITING.at + 4 * exprs,
         LINKS..LINKS + 4 * names,
-        end..end + placed as usize,
     ]);
     all
 }

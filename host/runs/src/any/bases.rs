@@ -4,7 +4,7 @@
 use crate::calls::changes::{can_change, Changes, Target};
 use crate::exported::{self, REPLY};
 use crate::nameres;
-use crate::store::layout::BYTES;
+use crate::store::layout::{BYTES, EXPRS};
 use crate::store::model::Size;
 use crate::store::runs::{empty_header, filled, small_header};
 use crate::store::soil;
@@ -69,12 +69,12 @@ fn changed(store: &mut [u8], seed: u64) {
     let nodes = Preset::Small.sheet(seed);
     load(store, &nodes);
     let facts = Tix::new(&nodes).facts();
-    let mut changes = Changes::new(seed, true);
+    let (mut changes, mut moved) = (Changes::new(seed, true), vec![0; 4 * EXPRS.limit]);
     for _ in 0..if can_change(&facts) { 40 } else { 0 } {
         let change = changes.alone(&facts);
         match change.target {
-            Target::Name(name) => exported::change_name(store, name, &change.text, &mut [0; REPLY]),
-            Target::Reference(e) => exported::change_reference(store, e, &change.text, &mut [0; REPLY]),
+            Target::Name(name) => exported::change_name(store, name, &change.text, &mut moved, &mut [0; REPLY]),
+            Target::Reference(e) => exported::change_reference(store, e, &change.text, &mut moved, &mut [0; REPLY]),
         };
     }
 }

@@ -1,7 +1,7 @@
 //! The calls that are made on any store: numbers, texts and lengths that hit and miss.
 
 use super::guard::Side;
-use crate::store::asked::text_of;
+use crate::store::asked::{text_of, told};
 use crate::store::layout::{get, header, EXPRS, NAMES, NONE, TEXTS};
 use book::{Call, REPLY_BYTES};
 use generate::{Preset, Rng};
@@ -27,9 +27,25 @@ pub fn call(rng: &mut Rng, store: &[u8]) -> Call {
     match rng.below(4) {
         0 => Call::AskReference { number: reference(rng, store), buffer, reply },
         1 => Call::AskName { number: number(rng, store, header::NAMES), buffer, reply },
-        2 => Call::ChangeReference { number: reference(rng, store), text: text(rng, store), reply },
-        _ => Call::ChangeName { number: number(rng, store, header::NAMES), text: text(rng, store), reply },
+        2 => {
+            let call = Call::ChangeReference { number: reference(rng, store), text: text(rng, store), buffer: BUFFER, reply };
+            change(rng, store, call)
+        }
+        _ => {
+            let call = Call::ChangeName { number: number(rng, store, header::NAMES), text: text(rng, store), buffer: BUFFER, reply };
+            change(rng, store, call)
+        }
     }
+}
+
+/// A change whose buffer is about as long as what it moves: exact, a byte or a number too short, empty, or longer.
+fn change(rng: &mut Rng, store: &[u8], mut call: Call) -> Call {
+    let exact = told(store, &call).map_or(0, |accepted| 4 * accepted.list.len());
+    let drawn = rng.pick(&[exact, exact, exact, exact + 1, exact.saturating_sub(1), exact.saturating_sub(4), 0, BUFFER - 1, BUFFER]);
+    if let Call::ChangeReference { buffer, .. } | Call::ChangeName { buffer, .. } = &mut call {
+        *buffer = drawn;
+    }
+    call
 }
 
 /// A number below a count of the header, often the last or the one after it; now and then any number.

@@ -59,11 +59,11 @@ impl Memory {
             Call::AskName { number, .. } => timed(|| exported::ask_name(store, *number, buffer, reply)),
             Call::ChangeReference { number, text, .. } => {
                 let text = lent_bytes(&mut self.text, text, lent.side);
-                timed(|| exported::change_reference(store, *number, text, reply))
+                timed(|| exported::change_reference(store, *number, text, buffer, reply))
             }
             Call::ChangeName { number, text, .. } => {
                 let text = lent_bytes(&mut self.text, text, lent.side);
-                timed(|| exported::change_name(store, *number, text, reply))
+                timed(|| exported::change_name(store, *number, text, buffer, reply))
             }
         }
     }

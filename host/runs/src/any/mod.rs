@@ -177,12 +177,14 @@ impl Run<'_> {
     /// What an accepted change leaves: the new text, a store that is in order, and nothing written but what a change
     /// writes.
     fn changed(&mut self, place: &Place, damage: &Damage, call: &Call, at: usize) -> Result<(), String> {
-        let (Call::ChangeReference { text, .. } | Call::ChangeName { text, .. }) = call else { return Ok(()) };
+        let (Some(changed), Call::ChangeReference { text, .. } | Call::ChangeName { text, .. }) = (asked::place(call), call) else {
+            return Ok(());
+        };
         if !self.memory.store.edge_stands(place.length, place.at) {
             return Err("bytes beside the store were written".to_string());
         }
         let now = self.memory.store.own(place.length, place.at);
-        damaged(&mut self.filled, damage, |before| after::change(before, now, at, text))
+        damaged(&mut self.filled, damage, |before| after::change(before, now, at, changed, text))
     }
 
     /// Loads a sheet; whether the store was written.

@@ -1,10 +1,15 @@
 //! Random calls on a loaded sheet: most of them accepted, and some for each refusal.
 
 use super::change_call;
-use super::changes::{text_of, Changes, Target};
-use book::{Call, REPLY_BYTES, ROOM_BYTES, TEXT_BYTES};
+use super::changes::{text_of, Change, Changes, Target};
+use crate::store::layout::EXPRS;
+use book::{Book, Call, REPLY_BYTES, ROOM_BYTES, TEXT_BYTES};
 use canon::{Answer, Expr, Facts};
 use generate::Rng;
+use tix::Tix;
+
+/// A buffer that no list is too long for.
+const LONG_ENOUGH: usize = 4 * EXPRS.limit;
 
 /// Whether the changes of a seed have long texts, so that the change room is spent.
 pub fn greedy(seed: u64) -> bool {
@@ -23,9 +28,9 @@ impl Calls {
     }
 
     /// The next call, where so many bytes of the change room are spent.
-    pub fn next(&mut self, facts: &Facts, spent: usize) -> Call {
+    pub fn next(&mut self, book: &Book<Tix>, facts: &Facts, spent: usize) -> Call {
         let mut call = match self.rng.below(20) {
-            0..10 => self.change(facts, ROOM_BYTES - spent),
+            0..10 => self.change(book, facts, ROOM_BYTES - spent),
             10 => self.long_change(facts),
             11 => self.equal_change(facts),
             12..16 => self.ask_reference(facts),
@@ -43,9 +48,22 @@ impl Calls {
 
     /// A change that may be accepted: where its text is longer than what is left of the room, it is cut as often as
     /// not.
-    fn change(&mut self, facts: &Facts, room: usize) -> Call {
+    fn change(&mut self, book: &Book<Tix>, facts: &Facts, room: usize) -> Call {
         let room = if self.rng.chance(50) { room } else { usize::MAX };
-        change_call(self.changes.next(facts, room))
+        let change = self.changes.next(facts, room);
+        // Often enough the length is known to suffice, since finding out what moves takes as long as the change.
+        let buffer = if self.rng.chance(40) { LONG_ENOUGH } else { self.buffer_for(book, &change) };
+        change_call(change, buffer)
+    }
+
+    /// The length of a buffer for what a change moves: exact twice in three times, else as for other lists.
+    fn buffer_for(&mut self, book: &Book<Tix>, change: &Change) -> usize {
+        let moved = book.clone().call(&change_call(change.clone(), LONG_ENOUGH)).list.len();
+        if self.rng.chance(66) {
+            4 * moved
+        } else {
+            self.buffer(moved)
+        }
     }
 
     /// A change to a text of 255 bytes, of 256 or of more.
@@ -53,14 +71,14 @@ impl Calls {
         let mut change = self.changes.alone(facts);
         let length = self.rng.pick(&[TEXT_BYTES, TEXT_BYTES + 1, TEXT_BYTES + 1, 300, 4_096, 70_000]);
         change.text = vec![self.rng.pick(b"lm"); length];
-        change_call(change)
+        change_call(change, self.rng.pick(&[0, LONG_ENOUGH, LONG_ENOUGH]))
     }
 
-    /// A change to the text that is there already, however long that is.
+    /// A change to the text that is there already, however long that is. It moves nothing, so it wants no buffer.
     fn equal_change(&mut self, facts: &Facts) -> Call {
         let mut change = self.changes.alone(facts);
         change.text = text_of(facts, change.target).to_vec();
-        change_call(change)
+        change_call(change, self.rng.pick(&[0, 0, 3, LONG_ENOUGH]))
     }
 
     fn ask_reference(&mut self, facts: &Facts) -> Call {

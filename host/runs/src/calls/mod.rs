@@ -147,7 +147,7 @@ impl Run<'_> {
         self.before.extend(self.lent.all());
         let mut drawn = Calls::new(seed);
         for i in 1..=calls {
-            let call = drawn.next(&loaded.right.facts, loaded.right.spent());
+            let call = drawn.next(&loaded.book, &loaded.right.facts, loaded.right.spent());
             self.progress.turn();
             if let Err(why) = self.call(&mut loaded, &call) {
                 *self.lent = Lent::new();
@@ -160,7 +160,7 @@ impl Run<'_> {
     fn call(&mut self, loaded: &mut Loaded, call: &Call) -> Result<(), String> {
         let made = make(self.lent.store(), call);
         let outcome = loaded.book.call(call);
-        as_told(&made, call, &outcome)?;
+        as_told(&made, &outcome)?;
         locality::check(&loaded.right.facts, call, &outcome)?;
         self.seen.add(loaded, call, &outcome);
         if outcome.changed == Some(true) {
@@ -182,7 +182,7 @@ impl Run<'_> {
 }
 
 /// Whether a call returned, replied and left in the buffer what the book says.
-fn as_told(made: &Made, call: &Call, outcome: &Outcome) -> Result<(), String> {
+fn as_told(made: &Made, outcome: &Outcome) -> Result<(), String> {
     if made.number != outcome.refused {
         return Err(format!("returned {}, and the book says `{outcome}`", made.number));
     }
@@ -193,10 +193,7 @@ fn as_told(made: &Made, call: &Call, outcome: &Outcome) -> Result<(), String> {
     };
     let words = [outcome.refused, outcome.place, answer, what, outcome.list.len() as u32];
     made.reply.holds(&words).map_err(|why| format!("reply: {why}"))?;
-    match call {
-        Call::AskReference { .. } | Call::AskName { .. } => made.buffer.holds(&outcome.list).map_err(|why| format!("buffer: {why}")),
-        Call::ChangeReference { .. } | Call::ChangeName { .. } => Ok(()),
-    }
+    made.buffer.holds(&outcome.list).map_err(|why| format!("buffer: {why}"))
 }
 
 /// A loaded sheet: the book, what is right for the store, and what was right when it was loaded.
@@ -221,12 +218,12 @@ impl Loaded {
     }
 }
 
-/// A change as the book is told it, with a reply that is just long enough.
-fn change_call(change: changes::Change) -> Call {
+/// A change as the book is told it, in a buffer of so many bytes and with a reply that is just long enough.
+fn change_call(change: changes::Change, buffer: usize) -> Call {
     let (text, reply) = (change.text, REPLY_BYTES);
     match change.target {
-        changes::Target::Name(number) => Call::ChangeName { number, text, reply },
-        changes::Target::Reference(number) => Call::ChangeReference { number, text, reply },
+        changes::Target::Name(number) => Call::ChangeName { number, text, buffer, reply },
+        changes::Target::Reference(number) => Call::ChangeReference { number, text, buffer, reply },
     }
 }
 

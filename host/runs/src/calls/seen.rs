@@ -3,7 +3,7 @@
 use super::changes::text_of;
 use super::draw::target;
 use super::Loaded;
-use crate::making::{kind, KINDS};
+use crate::making::{kind, lengths, KINDS};
 use crate::progress::grouped;
 use book::{Call, Outcome, ROOM_BYTES};
 use canon::Facts;
@@ -12,9 +12,13 @@ use canon::Facts;
 const LONG: usize = 200;
 
 /// The refusals that a call on a loaded store can meet, after 0 for none.
-const NUMBERS: [u32; 7] = [0, 8, 21, 24, 25, 26, 27];
+const NUMBERS: [u32; 8] = [0, 8, 21, 24, 25, 26, 27, 34];
 /// Refusals that a kind of call can't meet, by the columns.
-const NEVER: [&[u32]; 4] = [&[8, 27], &[8, 25, 27], &[26], &[25, 26]];
+const NEVER: [&[u32]; 4] = [&[8, 27, 34], &[8, 25, 27, 34], &[26], &[25, 26]];
+
+/// Accepted changes are counted by how many answers they move: up to each of these, and more.
+const MOST_MOVED: [usize; 5] = [0, 1, 9, 99, usize::MAX];
+const MOVED: [&str; 5] = ["none", "1", "2 to 9", "10 to 99", "100 and more"];
 
 #[derive(Default)]
 pub struct Seen {
@@ -23,7 +27,7 @@ pub struct Seen {
     names: u64,
     references: u64,
     /// By the kind of call and the number returned.
-    numbers: [[u64; 7]; 4],
+    numbers: [[u64; 8]; 4],
     /// Accepted askings by the answer 0 to 3.
     answers: [u64; 4],
     /// References told for names.
@@ -34,8 +38,14 @@ pub struct Seen {
     empty: u64,
     long: u64,
     back: u64,
-    moving: u64,
+    /// Accepted changes with another text, by `MOST_MOVED`.
+    moving: [u64; 5],
     moved: u64,
+    /// Accepted changes that moved something and had four bytes for each number, and no more.
+    exact: u64,
+    /// Changes refused with 34, by whether they were lent no byte, or some that were too few.
+    unlent: u64,
+    too_few: u64,
     spent: u64,
 }
 
@@ -48,11 +58,10 @@ impl Seen {
         }
         if let Some(answer) = &outcome.answer {
             self.answers[answer.number() as usize] += 1;
-        } else {
+        } else if outcome.changed.is_none() {
             self.told += outcome.list.len() as u64;
         }
-        self.moving += u64::from(!outcome.moved.is_empty());
-        self.moved += outcome.moved.len() as u64;
+        self.add_moved(call, outcome);
         if let (Some((target, text)), Some(changed)) = (target(call), outcome.changed) {
             self.equal += u64::from(!changed);
             self.equal_spent += u64::from(!changed && loaded.right.spent() + text.len() > ROOM_BYTES);
@@ -62,6 +71,18 @@ impl Seen {
         }
         self.equal_over +=
             u64::from(outcome.refused == 8 && target(call).is_some_and(|(at, text)| text_of(&loaded.right.facts, at) == text));
+    }
+
+    fn add_moved(&mut self, call: &Call, outcome: &Outcome) {
+        let (moved, (buffer, _)) = (outcome.moved.len(), lengths(call));
+        self.moved += moved as u64;
+        if outcome.changed == Some(true) {
+            let class = MOST_MOVED.iter().position(|&most| moved <= most).unwrap_or(0);
+            self.moving[class] += 1;
+            self.exact += u64::from(moved > 0 && buffer == 4 * moved);
+        }
+        self.unlent += u64::from(outcome.refused == 34 && buffer == 0);
+        self.too_few += u64::from(outcome.refused == 34 && buffer > 0);
     }
 
     /// Adds what a load had, when its calls are made.
@@ -88,8 +109,11 @@ impl Seen {
         self.empty += later.empty;
         self.long += later.long;
         self.back += later.back;
-        self.moving += later.moving;
+        add(&mut self.moving, &later.moving);
         self.moved += later.moved;
+        self.exact += later.exact;
+        self.unlent += later.unlent;
+        self.too_few += later.too_few;
         self.spent += later.spent;
     }
 
@@ -118,9 +142,10 @@ impl Seen {
                 }
             }
         }
-        let others = [self.told, self.equal, self.equal_over, self.equal_spent, self.empty, self.long, self.moved, self.spent];
-        if self.answers.contains(&0) || others.contains(&0) {
-            println!("NEVER CAME UP: an answer or a kind of text above");
+        let others = [self.told, self.equal, self.equal_over, self.equal_spent, self.empty, self.long, self.spent];
+        let moving = [self.moved, self.moving[0], self.exact, self.unlent, self.too_few];
+        if self.answers.contains(&0) || others.contains(&0) || moving.contains(&0) {
+            println!("NEVER CAME UP: an answer, a kind of text or of buffer above");
             complete = false;
         }
         complete
@@ -128,10 +153,10 @@ impl Seen {
 
     pub fn print(&self) {
         println!("{} loads with {} names and {} References, {} calls", self.loads, self.names, self.references, self.calls);
-        println!("{:<18} {:>8} {:>8} {:>8} {:>8} {:>8} {:>8} {:>8}", "refused with", "0", "8", "21", "24", "25", "26", "27");
-        for (kind, [none, long, short, absent, other, buffer, room]) in KINDS.iter().zip(self.numbers) {
-            println!("{kind:<18} {none:>8} {long:>8} {short:>8} {absent:>8} {other:>8} {buffer:>8} {room:>8}");
-        }
+        let row =
+            |name: &str, cells: Vec<String>| println!("{name:<18}{}", cells.iter().map(|cell| format!(" {cell:>8}")).collect::<String>());
+        row("refused with", NUMBERS.iter().map(u32::to_string).collect());
+        KINDS.iter().zip(self.numbers).for_each(|(kind, counts)| row(kind, counts.iter().map(u64::to_string).collect()));
         let [none, definitions, builtins, withs] = self.answers;
         println!("answers told: nothing {none}, a definition {definitions}, a builtin {builtins}, Withs {withs}");
         println!("References told for names: {}", self.told);
@@ -139,7 +164,10 @@ impl Seen {
         println!("changes refused with 8 although the text was equal: {}", self.equal_over);
         let (empty, long, back) = (self.empty, self.long, self.back);
         println!("changes to the empty text: {empty}, to {LONG} bytes or more: {long}, back to the text as loaded: {back}");
-        println!("calls that moved answers: {}, with {} answers in all", self.moving, self.moved);
+        let moving: Vec<String> = MOVED.iter().zip(self.moving).map(|(most, count)| format!("{most}: {count}")).collect();
+        println!("changes by the answers that they moved, {} in all: {}", self.moved, moving.join(", "));
+        let (exact, unlent, too_few) = (self.exact, self.unlent, self.too_few);
+        println!("changes in a buffer that is just long enough: {exact}; refused with 34 in none: {unlent}, in some bytes: {too_few}");
         println!("loads whose change room was spent to its last byte: {}", self.spent);
     }
 }

@@ -7,7 +7,7 @@ use crate::exported::{self, REPLY};
 use crate::nameres::sheets;
 use crate::progress::{grouped, Progress};
 use crate::realistic::SIZES;
-use crate::store::layout::{header, put, EXPRS};
+use crate::store::layout::{get, header, put, EXPRS};
 use crate::store::Lent;
 use canon::{Answer, Facts, Reading};
 use lang_ast::classify;
@@ -17,12 +17,15 @@ use tix::Tix;
 
 /// A text that no name and no Reference has.
 const FRESH: &[u8] = b"renamed";
+/// How many uses are a few.
+const FEW: usize = 3;
 
 /// What is asked about and changed, and which name or Reference that is in a module; none where there is no such one.
 type Choice = (&'static str, fn(&Facts) -> Option<Target>);
 
-const CHOICES: [Choice; 3] = [
+const CHOICES: [Choice; 4] = [
     ("the name that is used most", |facts| used_most(facts).map(Target::Name)),
+    ("a name that is used a few times", |facts| used_little(facts).map(Target::Name)),
     ("a name that is never used", |facts| never_used(facts).map(Target::Name)),
     ("a Reference to a definition", |facts| defined(facts).map(Target::Reference)),
 ];
@@ -72,6 +75,13 @@ pub fn run(progress: &Progress) -> Result<(), String> {
 fn used_most(facts: &Facts) -> Option<u32> {
     let references = &facts.resolution.references;
     (0..references.len() as u32).max_by_key(|&name| references[name as usize].len())
+}
+
+/// Of the names that answer some References, the one that answers nearest to three.
+fn used_little(facts: &Facts) -> Option<u32> {
+    let references = &facts.resolution.references;
+    let used = (0..references.len() as u32).filter(|&name| !references[name as usize].is_empty());
+    used.min_by_key(|&name| references[name as usize].len().abs_diff(FEW))
 }
 
 /// Of the names that nothing is answered with, the one whose text the fewest References bear.
@@ -153,19 +163,15 @@ fn measure(store: &mut [u8], nodes: &[Node], choice: fn(&Facts) -> Option<Target
     let mut times = [(); 4].map(|()| Vec::new());
     for _ in 0..ROUNDS {
         times[0].push(time(|| ask(black_box(store), target, &mut buffer)));
-        let there = time(|| change(black_box(store), target, FRESH));
-        let back = time(|| change(black_box(store), target, old));
+        let there = time(|| change(black_box(store), target, FRESH, &mut buffer));
+        let back = time(|| change(black_box(store), target, old, &mut buffer));
         times[1].push((there + back) / 2.0);
         times[2].push(time(|| rust::resolved(black_box(&module))));
         times[3].push(time(|| rust::from_bytes(black_box(&bytes))));
         // So that the room lasts for all rounds; a store may have more texts in use than its changes account for.
         put(store, header::SPENT, 0);
     }
-    let moved = match target {
-        Target::Name(name) => facts.resolution.references[name as usize].len(),
-        Target::Reference(_) => 1,
-    };
-    same(store, target, &mut buffer, &facts)?;
+    let moved = same(store, target, &mut buffer, &facts)?;
     let [ask, compiled, again, whole] = times.map(median);
     Ok(Some(Measured { moved, ask, again: Pair { compiled, rust: again }, whole }))
 }
@@ -180,18 +186,26 @@ fn ask(store: &[u8], target: Target, buffer: &mut [u8]) -> (u32, [u8; REPLY]) {
     (number, reply)
 }
 
-fn change(store: &mut [u8], target: Target, text: &[u8]) -> u32 {
+/// Changes a text; the number and the words that were told.
+fn change(store: &mut [u8], target: Target, text: &[u8], moved: &mut [u8]) -> (u32, [u8; REPLY]) {
     let mut reply = [0; REPLY];
-    match target {
-        Target::Name(name) => exported::change_name(store, name, text, &mut reply),
-        Target::Reference(e) => exported::change_reference(store, e, text, &mut reply),
-    }
+    let number = match target {
+        Target::Name(name) => exported::change_name(store, name, text, moved, &mut reply),
+        Target::Reference(e) => exported::change_reference(store, e, text, moved, &mut reply),
+    };
+    (number, reply)
 }
 
-/// Whether all changes were made and taken back: the last asking is told what it was told first.
-fn same(store: &mut [u8], target: Target, buffer: &mut [u8], facts: &Facts) -> Result<(), String> {
+/// The length of the list that a reply tells.
+fn length(reply: &[u8; REPLY]) -> usize {
+    get(reply, 16) as usize
+}
+
+/// Whether all changes were made and taken back: the last asking is told what it was told first. Gives how many answers
+/// a change moves.
+fn same(store: &mut [u8], target: Target, buffer: &mut [u8], facts: &Facts) -> Result<usize, String> {
     let (number, reply) = ask(store, target, buffer);
-    let told = u32::from_le_bytes([reply[16], reply[17], reply[18], reply[19]]) as usize;
+    let told = length(&reply);
     let right = match target {
         Target::Name(name) => facts.resolution.references[name as usize].len(),
         Target::Reference(e) => match facts.resolution.answers.get(&e) {
@@ -199,9 +213,8 @@ fn same(store: &mut [u8], target: Target, buffer: &mut [u8], facts: &Facts) -> R
             _ => 0,
         },
     };
-    if (number, told) == (0, right) && change(store, target, FRESH) == 0 {
-        Ok(())
-    } else {
-        Err(format!("after the changes an asking about {target:?} is told {number}, with {told} numbers and not {right}"))
+    match change(store, target, FRESH, buffer) {
+        (0, moved) if (number, told) == (0, right) => Ok(length(&moved)),
+        _ => Err(format!("after the changes an asking about {target:?} is told {number}, with {told} numbers and not {right}")),
     }
 }

@@ -1,13 +1,18 @@
-//! What a call on any store comes to, from docs/STORE.md and the order of refusals: for an asking all that is told, for
-//! a change whether it is accepted.
+//! What a call on any store comes to, from docs/STORE.md and the order of refusals: all that is told, and for a change
+//! where it writes the text.
 
 use super::layout::{self, get, header, Table, NONE};
-use super::sound;
+use super::moves::{self, Place};
+use super::{page, sound};
 use crate::making::lengths;
 use book::{Call, REPLY_BYTES, ROOM_BYTES, TEXT_BYTES};
 
 /// A refusal's number and place.
 pub type Refusal = (u32, u32);
+
+/// The refusals of a buffer that is too short: for the list of an asking, and for what a change moves.
+const LIST_TOO_LONG: u32 = 26;
+const MOVED_TOO_LONG: u32 = 34;
 
 /// What an accepted call comes to.
 #[derive(Debug, Default, Clone, PartialEq, Eq)]
@@ -39,28 +44,51 @@ pub fn told(store: &[u8], call: &Call) -> Result<Accepted, Refusal> {
     match call {
         Call::AskReference { number, buffer, .. } => ask_reference(store, *number, *buffer),
         Call::AskName { number, buffer, .. } => ask_name(store, *number, *buffer),
-        Call::ChangeReference { number, text, .. } => change(store, reference(store, *number)?, text),
-        Call::ChangeName { number, text, .. } => change(store, name(store, *number)?, text),
+        Call::ChangeReference { number, text, buffer, .. } => {
+            reference(store, *number)?;
+            change(store, Place::Reference(*number), text, *buffer)
+        }
+        Call::ChangeName { number, text, buffer, .. } => {
+            name(store, *number)?;
+            change(store, Place::Name(*number), text, *buffer)
+        }
     }
 }
 
-/// Where the number of a Reference's text stands.
-fn reference(store: &[u8], number: u32) -> Result<usize, Refusal> {
+/// What a change sets; none of an asking.
+pub fn place(call: &Call) -> Option<Place> {
+    match call {
+        Call::AskReference { .. } | Call::AskName { .. } => None,
+        Call::ChangeReference { number, .. } => Some(Place::Reference(*number)),
+        Call::ChangeName { number, .. } => Some(Place::Name(*number)),
+    }
+}
+
+/// Whether there is such a Reference.
+fn reference(store: &[u8], number: u32) -> Result<(), Refusal> {
     if number >= get(store, header::EXPRS) {
         return Err((24, number));
     }
     match get(store, layout::EXPRS.word(number as usize, 1)) {
-        21 => Ok(layout::EXPRS.word(number as usize, 2)),
+        21 => Ok(()),
         _ => Err((25, number)),
     }
 }
 
-/// Where the number of a name's text stands.
-fn name(store: &[u8], number: u32) -> Result<usize, Refusal> {
+/// Whether there is such a name.
+fn name(store: &[u8], number: u32) -> Result<(), Refusal> {
     if number < get(store, header::NAMES) {
-        Ok(layout::NAMES.word(number as usize, 0))
+        Ok(())
     } else {
         Err((24, number))
+    }
+}
+
+/// Where the number of a place's text stands.
+fn text_word(place: Place) -> usize {
+    match place {
+        Place::Reference(number) => layout::EXPRS.word(number as usize, 2),
+        Place::Name(number) => layout::NAMES.word(number as usize, 0),
     }
 }
 
@@ -73,7 +101,7 @@ fn ask_reference(store: &[u8], number: u32, buffer: usize) -> Result<Accepted, R
         word @ 2..=23 => ([2, word - 2], Vec::new()),
         word => ([1, word - 24], Vec::new()),
     };
-    fitting(Accepted { answer, list, changes: None }, buffer)
+    fitting(Accepted { answer, list, changes: None }, buffer, LIST_TOO_LONG)
 }
 
 /// The Withs from a scope up, by one more than its number.
@@ -89,7 +117,7 @@ fn withs(store: &[u8], mut scope: u32) -> Vec<u32> {
 fn ask_name(store: &[u8], number: u32, buffer: usize) -> Result<Accepted, Refusal> {
     name(store, number)?;
     let list = elements(store, layout::REFERENCES, layout::KEPT, number as usize);
-    fitting(Accepted { list, ..Accepted::default() }, buffer)
+    fitting(Accepted { list, ..Accepted::default() }, buffer, LIST_TOO_LONG)
 }
 
 /// The list of a row whose elements are single words.
@@ -98,16 +126,17 @@ fn elements(store: &[u8], rows: Table, elements: Table, row: usize) -> Vec<u32> 
     (first..end).map(|element| get(store, elements.word(element as usize, 0))).collect()
 }
 
-fn fitting(accepted: Accepted, buffer: usize) -> Result<Accepted, Refusal> {
+fn fitting(accepted: Accepted, buffer: usize, refusal: u32) -> Result<Accepted, Refusal> {
     let length = accepted.list.len();
     if buffer < 4 * length {
-        return Err((26, length as u32));
+        return Err((refusal, length as u32));
     }
     Ok(accepted)
 }
 
-/// A change of the text whose number stands at `at`.
-fn change(store: &[u8], at: usize, text: &[u8]) -> Result<Accepted, Refusal> {
+/// A change of the text of a place that there is.
+fn change(store: &[u8], place: Place, text: &[u8], buffer: usize) -> Result<Accepted, Refusal> {
+    let at = text_word(place);
     if text.len() > TEXT_BYTES {
         return Err((8, TEXT_BYTES as u32));
     }
@@ -117,7 +146,9 @@ fn change(store: &[u8], at: usize, text: &[u8]) -> Result<Accepted, Refusal> {
     if get(store, header::SPENT) as usize + text.len() > ROOM_BYTES {
         return Err((27, 0));
     }
-    Ok(Accepted { changes: Some(at), ..Accepted::default() })
+    // What is sound can be read.
+    let list = page::read(store).map_or(Vec::new(), |before| moves::by(&before, place, text).moved);
+    fitting(Accepted { list, changes: Some(at), ..Accepted::default() }, buffer, MOVED_TOO_LONG)
 }
 
 /// The text of a number in a sound store.

@@ -3,7 +3,7 @@
 //! - `layout`: the page's offsets.
 //! - `module`: what a store holds, as plain values; `page`: the reader; `encode`, `build`: the builder.
 //! - `sound`: the check of 21, 22 and 23; `asked`: what a call on any store comes to; `resolve`: what a Reference
-//!   means.
+//!   means; `moves`: which answers a change moves.
 //! - `model`: random modules.
 //! - `sites`, `damage`: which words may be what, and changes to them.
 //! - `same`: where two modules differ.
@@ -17,6 +17,7 @@ pub mod encode;
 pub mod layout;
 pub mod model;
 pub mod module;
+pub mod moves;
 pub mod page;
 pub mod resolve;
 pub mod runs;

@@ -14,8 +14,14 @@ pub fn book(notation: &str) -> Book<Plain> {
     Book::new(Plain::new(&sheet::short::parse(notation).expect("a tree in short notation")))
 }
 
-/// The lines of a script's outcomes, moved answers included.
+/// The lines of a script's outcomes. What each call moved must be what it may move, and what it told.
 pub fn run(book: &mut Book<Plain>, script: &str) -> Vec<String> {
     let calls = book::script::parse(script).expect("a script");
-    calls.iter().map(|call| format!("{:#}", book.call(call))).collect()
+    let line = |call| {
+        let before = book.facts();
+        let outcome = book.call(call);
+        book::locality::check(&before, call, &outcome).expect("a call moves what it may and tells it");
+        outcome.to_string()
+    };
+    calls.iter().map(line).collect()
 }

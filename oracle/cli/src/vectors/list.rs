@@ -13,6 +13,7 @@ pub fn all() -> Result<Vec<Vector>, String> {
         points::sheets()?,
         points::scripts()?,
         calls::refused()?,
+        calls::moved()?,
         calls::room()?,
         random::valid(),
         random::damaged()?,

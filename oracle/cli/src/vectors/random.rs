@@ -41,7 +41,7 @@ fn script(nodes: &[sheet::Node], seed: u64) -> Vec<Call> {
     let mut rng = Rng::new(seed);
     let mut calls = Vec::new();
     for _ in 0..CALLS {
-        calls.push(book::random::call(&mut rng, &book.facts(), false));
+        calls.push(book::random::call(&mut rng, &book, false));
         book.call(&calls[calls.len() - 1]);
     }
     calls

@@ -7,6 +7,7 @@
 //! call=KIND           0 asks about a Reference, 1 asks about a name, 2 changes a Reference, 3 changes a name
 //! number=NUMBER
 //! lent=LENGTH         of the buffer of an asking, or of the text of a change
+//! moved=LENGTH        of a change alone: of the buffer for what it moves
 //! reply=LENGTH
 //! TEXT                of a change alone: its bytes as they are, then a byte 10
 //! ```
@@ -45,38 +46,55 @@ fn within_limits(vector: &Vector) -> Result<(), String> {
     if vector.sheet.len() >= refsheet::MAX_BYTES {
         return Err(format!("a sheet of {} bytes", vector.sheet.len()));
     }
-    match vector.calls.iter().find(|call| parts(call).lent > MOST_LENT || parts(call).reply > MOST_REPLY) {
+    match vector.calls.iter().find(|call| is_too_much(&parts(call))) {
         Some(call) => Err(format!("too much is lent for {call}")),
         None => Ok(()),
     }
 }
 
-/// The numbers of a call, and the text of a change.
+fn is_too_much(parts: &Parts) -> bool {
+    let moved = parts.change.as_ref().map_or(0, |change| change.moved);
+    parts.lent > MOST_LENT || moved > MOST_LENT || parts.reply > MOST_REPLY
+}
+
+/// The numbers of a call, and what a change has beside them.
 struct Parts<'a> {
     kind: u8,
     number: u32,
     lent: usize,
     reply: usize,
-    text: Option<&'a [u8]>,
+    change: Option<Change<'a>>,
+}
+
+/// The text of a change, and the length of its buffer.
+struct Change<'a> {
+    text: &'a [u8],
+    moved: usize,
 }
 
 fn parts(call: &Call) -> Parts<'_> {
-    let (kind, number, lent, reply, text) = match call {
-        Call::AskReference { number, buffer, reply } => (0, *number, *buffer, *reply, None),
-        Call::AskName { number, buffer, reply } => (1, *number, *buffer, *reply, None),
-        Call::ChangeReference { number, text, reply } => (2, *number, text.len(), *reply, Some(text.as_slice())),
-        Call::ChangeName { number, text, reply } => (3, *number, text.len(), *reply, Some(text.as_slice())),
-    };
-    Parts { kind, number, lent, reply, text }
+    let asking =
+        |kind, number: &u32, buffer: &usize, reply: &usize| Parts { kind, number: *number, lent: *buffer, reply: *reply, change: None };
+    match call {
+        Call::AskReference { number, buffer, reply } => asking(0, number, buffer, reply),
+        Call::AskName { number, buffer, reply } => asking(1, number, buffer, reply),
+        Call::ChangeReference { number, text, buffer, reply } => change_parts(2, *number, text, *buffer, *reply),
+        Call::ChangeName { number, text, buffer, reply } => change_parts(3, *number, text, *buffer, *reply),
+    }
+}
+
+fn change_parts(kind: u8, number: u32, text: &[u8], moved: usize, reply: usize) -> Parts<'_> {
+    Parts { kind, number, lent: text.len(), reply, change: Some(Change { text, moved }) }
 }
 
 fn write_vector(input: &mut Vec<u8>, vector: &Vector) {
     input.extend(format!("{}\nsheet={}\n", vector.title, vector.sheet.len()).into_bytes());
     input.extend_from_slice(&vector.sheet);
     input.extend(format!("calls={}\n", vector.calls.len()).into_bytes());
-    for Parts { kind, number, lent, reply, text } in vector.calls.iter().map(parts) {
-        input.extend(format!("call={kind}\nnumber={number}\nlent={lent}\nreply={reply}\n").into_bytes());
-        if let Some(text) = text {
+    for Parts { kind, number, lent, reply, change } in vector.calls.iter().map(parts) {
+        let moved = change.as_ref().map_or(String::new(), |change| format!("moved={}\n", change.moved));
+        input.extend(format!("call={kind}\nnumber={number}\nlent={lent}\n{moved}reply={reply}\n").into_bytes());
+        if let Some(Change { text, .. }) = change {
             input.extend_from_slice(text);
             input.push(b'\n');
         }
@@ -118,15 +136,13 @@ fn shared(rust: &Book<Tix>, plain: &Book<Plain>) -> Result<String, String> {
 }
 
 fn outcome_lines(call: &Call, outcome: &Outcome) -> String {
+    let list = || outcome.list.iter().map(u32::to_string).collect::<Vec<_>>().join(",");
     let mut lines = String::new();
     // Writing to a string does not fail.
     let _ = match (outcome.refused, call, &outcome.answer) {
         (0, Call::AskReference { .. }, Some(answer)) => writeln!(lines, "{}", refsheet::answer_lines(answer)),
-        (0, Call::AskName { .. } | Call::AskReference { .. }, _) => {
-            let list: Vec<String> = outcome.list.iter().map(u32::to_string).collect();
-            writeln!(lines, "list={}", list.join(","))
-        }
-        (0, Call::ChangeReference { .. } | Call::ChangeName { .. }, _) => writeln!(lines, "accepted"),
+        (0, Call::AskName { .. } | Call::AskReference { .. }, _) => writeln!(lines, "list={}", list()),
+        (0, Call::ChangeReference { .. } | Call::ChangeName { .. }, _) => writeln!(lines, "moved={}", list()),
         (refused, ..) => writeln!(lines, "refused={refused}\nat={}", outcome.place),
     };
     lines

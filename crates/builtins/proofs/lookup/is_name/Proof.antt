@@ -1,6 +1,5 @@
 -- `builtins::lookup::is_name` meets its contract. Written by a script from tools/answers/builtins.txt. Assumes nothing.
-use lib.Seq.{length-take-le}
-use mathlib.Core.Path.{sym}
+use native.Mathlib.Omega.{arith}
 use borrow.Author.Needs.{needs}
 use Rattle.builtins.proofs.LookupLaws.{fits-row, other-length, other-first, row-compared}
 use Rattle.builtins.proofs.lookup.is_name.Statement.{statement}
@@ -13,28 +12,25 @@ cast-size : tie.Need-cast-size
 cast-size c = search needs
 
 returns : tie.Need-returns
-returns c = other-length _ _ _ _ _ (c .before .before .before .pre .1 .1) (c .before .length-at .ensures) (c .before .before .before .pre .1 .0) (c .if1 .taken)
+returns c = other-length _ _ _ (c .before .before .before .pre .1) (c .before .length-at .ensures) (c .if1 .taken)
 
 first-at-requires : tie.Need-first-at-requires
 first-at-requires c κs = search needs
 
 returns-2 : tie.Need-returns-2
-returns-2 c = other-first _ _ _ _ _ (c .before .before .before .before .before .pre .1 .1) (c .before .first-at .ensures) (c .before .before .before .before .before .pre .1 .0) (c .if2 .taken)
+returns-2 c = other-first _ _ _ _ (c .before .before .before .before .before .pre .1) (c .before .first-at .ensures) (c .before .before .before .before .before .pre .0) (c .if2 .taken)
 
 row-at-requires : tie.Need-row-at-requires
 row-at-requires c κs = search needs
 
-array-share-prefix-row : tie.Need-array-share-prefix-row
-array-share-prefix-row c = fits-row _ _ _ (c .before .before .before .before .before .before .pre .1 .1) (c .before .before .before .before .length-at .ensures) (c .row-at .ensures)
+slice-aggregate-equal-to : tie.Need-slice-aggregate-equal-to
+slice-aggregate-equal-to c = search needs
 
-slice-aggregate-text-is : tie.Need-slice-aggregate-text-is
-slice-aggregate-text-is c = sym (length-take-le _ _ (fits-row _ _ _ (c .before .before .before .before .before .before .before .pre .1 .1) (c .before .before .before .before .before .length-at .ensures) (c .before .row-at .ensures)))
-
-text-is-requires : tie.Need-text-is-requires
-text-is-requires c κs = search needs
+equal-to-requires : tie.Need-equal-to-requires
+equal-to-requires c κs = omega (arith, fits-row _ _ _ (c .before .before .before .before .before .before .before .pre .1) (c .before .before .before .before .before .length-at .ensures) (c .before .row-at .ensures))
 
 returns-3 : tie.Need-returns-3
-returns-3 c = row-compared _ _ _ _ _ (c .before .before .before .before .before .before .length-at .ensures) (c .before .before .row-at .ensures) (c .text-is .ensures)
+returns-3 c = row-compared _ _ _ _ _ (c .before .before .before .before .before .before .length-at .ensures) (c .before .before .row-at .ensures) (c .equal-to .ensures)
 
 pub is-name-spec : {M : Type 1} → statement M
 is-name-spec =
@@ -46,7 +42,6 @@ is-name-spec =
     first-at-requires
     returns-2
     row-at-requires
-    array-share-prefix-row
-    slice-aggregate-text-is
-    text-is-requires
+    slice-aggregate-equal-to
+    equal-to-requires
     returns-3)

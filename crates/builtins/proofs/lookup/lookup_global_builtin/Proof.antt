@@ -4,34 +4,27 @@ use native.Mathlib.Omega.{arith}
 use Prim.Native.Nat.{_-_}
 use mathlib.Core.Path.{_≡_, refl}
 use Rattle.builtins.proofs.LookupLaws.{name-found, name-passed, name-lacked}
-use Rattle.layout.specs.Texts.{textIn}
 use Rattle.spec.specs.Answer.{builtins, indexFrom}
 use Rattle.builtins.proofs.lookup.lookup_global_builtin.Statement.{statement}
 use Rattle.builtins.proofs.lookup.lookup_global_builtin.Tie as tie
 
 abbrev Inv-loop : tie.InvT-loop
-Inv-loop store t n first i₀ i = indexFrom 0 (textIn store (t .0)) builtins ≡ indexFrom i (textIn store (t .0)) (drop i builtins)
+Inv-loop text first i₀ i = indexFrom 0 text builtins ≡ indexFrom i text (drop i builtins)
 
 abbrev μ-loop : tie.MeasureT-loop
-μ-loop store t n first i₀ i = 22 - i
+μ-loop text first i₀ i = 22 - i
 
-text-length-requires : tie.Need-text-length-requires Inv-loop μ-loop
-text-length-requires c κs = c .before .pre
-
-cast-n : tie.Need-cast-n Inv-loop μ-loop
-cast-n c = omega arith
-
-text-byte-requires : tie.Need-text-byte-requires Inv-loop μ-loop
-text-byte-requires c κs = c .before .before .pre
+first-byte-requires : tie.Need-first-byte-requires Inv-loop μ-loop
+first-byte-requires c κs = omega arith
 
 loop-holds : tie.Need-loop-holds Inv-loop μ-loop
 loop-holds c = refl
 
 is-name-requires : tie.Need-is-name-requires Inv-loop μ-loop
-is-name-requires c κs = (c .before .before .before .before .before .pre, (record { size = c .before .before .before .text-length .ensures; byte = c .before .before .text-byte .ensures }, c .loop-test .taken))
+is-name-requires c κs = (c .before .before .first-byte .ensures, c .loop-test .taken)
 
-cast-t9 : tie.Need-cast-t9 Inv-loop μ-loop
-cast-t9 c = omega arith
+cast-t6 : tie.Need-cast-t6 Inv-loop μ-loop
+cast-t6 c = omega arith
 
 returns : tie.Need-returns Inv-loop μ-loop
 returns c = name-found _ _ (c .before .before .before .loop .inv) _ (c .before .before .loop-test .taken) (c .before .is-name .ensures) (c .if1 .taken)
@@ -54,12 +47,10 @@ lookup-global-builtin-spec =
     (tie.spec
     Inv-loop
     μ-loop
-    text-length-requires
-    cast-n
-    text-byte-requires
+    first-byte-requires
     loop-holds
     is-name-requires
-    cast-t9
+    cast-t6
     returns
     add-i
     loop-less

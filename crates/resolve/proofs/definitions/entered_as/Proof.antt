@@ -2,7 +2,6 @@
 use borrow.Author.Needs.{needs}
 use Rattle.resolve.proofs.DefinitionLaws.{has-text, other-text, none-there}
 use Rattle.resolve.proofs.IdLaws.{a-name, no-name}
-use Rattle.spec.specs.Answer.{textOfName}
 use Rattle.module.specs.Ids.{nameOf}
 use Rattle.resolve.proofs.definitions.entered_as.Statement.{statement}
 use Rattle.resolve.proofs.definitions.entered_as.Tie as tie
@@ -10,25 +9,22 @@ use Rattle.resolve.proofs.definitions.entered_as.Tie as tie
 entered-at-requires : tie.Need-entered-at-requires
 entered-at-requires c κs = search needs
 
-enum-known-x : tie.Need-enum-known-x
-enum-known-x c = search needs
+enum-known-y : tie.Need-enum-known-y
+enum-known-y c = search needs
 
-name-text-requires : tie.Need-name-text-requires
-name-text-requires c κs = search needs
-
-texts-equal-requires : tie.Need-texts-equal-requires
-texts-equal-requires c κs = search needs
+name-is-requires : tie.Need-name-is-requires
+name-is-requires c κs = search needs
 
 enum-told : tie.Need-enum-told
 enum-told c = search needs
 
 returns : tie.Need-returns
-unfolding nameOf textOfName
-returns c = has-text _ _ _ _ _ _ (a-name (c .before .before .before .before .x .given .1) (c .before .before .before .before .before .before .entered-at .ensures)) (c .before .before .name-text .ensures) (c .before .texts-equal .ensures) (c .if1 .taken)
+unfolding nameOf
+returns c = has-text _ _ _ _ _ (a-name (c .before .before .before .y .given .1) (c .before .before .before .before .before .entered-at .ensures)) (c .before .name-is .ensures) (c .if1 .taken)
 
 returns-2 : tie.Need-returns-2
-unfolding nameOf textOfName
-returns-2 c = other-text _ _ _ _ _ _ (a-name (c .before .before .before .before .x .given .1) (c .before .before .before .before .before .before .entered-at .ensures)) (c .before .before .name-text .ensures) (c .before .texts-equal .ensures) (c .if1 .left)
+unfolding nameOf
+returns-2 c = other-text _ _ _ _ _ (a-name (c .before .before .before .y .given .1) (c .before .before .before .before .before .entered-at .ensures)) (c .before .name-is .ensures) (c .if1 .left)
 
 returns-3 : tie.Need-returns-3
 unfolding nameOf
@@ -39,9 +35,8 @@ entered-as-spec =
     tie.close
     (tie.spec
     entered-at-requires
-    enum-known-x
-    name-text-requires
-    texts-equal-requires
+    enum-known-y
+    name-is-requires
     enum-told
     returns
     returns-2

@@ -1,29 +1,19 @@
 -- `resolve::names::resolve_name` meets its contract. Written by a script from tools/answers/resolve.txt. Assumes nothing.
+use native.Mathlib.Omega.{arith}
 use borrow.Author.Needs.{needs}
-use Rattle.resolve.proofs.NameLaws.{in-scope, in-none}
-use Rattle.resolve.proofs.IdLaws.{a-scope, no-scope}
+use Rattle.resolve.proofs.SetNameLaws.{unset-answer}
 use Rattle.resolve.proofs.names.resolve_name.Statement.{statement}
 use Rattle.resolve.proofs.names.resolve_name.Tie as tie
 
-scope-of-requires : tie.Need-scope-of-requires
-scope-of-requires c κs = search needs
+slice-aggregate-resolve-renamed : tie.Need-slice-aggregate-resolve-renamed
+slice-aggregate-resolve-renamed c = search needs
 
-enum-known-s : tie.Need-enum-known-s
-enum-known-s c = search needs
-
-resolve-in-requires : tie.Need-resolve-in-requires
-resolve-in-requires c κs = search needs
-
-enum-told : tie.Need-enum-told
-enum-told c = search needs
+resolve-renamed-requires : tie.Need-resolve-renamed-requires
+resolve-renamed-requires c κs = search needs
 
 returns : tie.Need-returns
-returns c = in-scope _ _ _ _ _ (a-scope (c .before .before .s .given .1) (c .before .before .before .before .scope-of .ensures)) (c .resolve-in .ensures)
-
-returns-2 : tie.Need-returns-2
-returns-2 c = in-none _ _ _ _ (no-scope (c .enum-told .given .1) (c .before .before .scope-of .ensures))
+returns c = unset-answer _ _ _ _ _ _ (omega arith) (c .resolve-renamed .ensures)
 
 pub resolve-name-spec : {M : Type 1} → statement M
 resolve-name-spec =
-    tie.close
-    (tie.spec scope-of-requires enum-known-s resolve-in-requires enum-told returns returns-2)
+    tie.close (tie.spec slice-aggregate-resolve-renamed resolve-renamed-requires returns)

@@ -20,20 +20,20 @@ enum-told-2 c = search needs
 defined-in-requires : tie.Need-defined-in-requires
 defined-in-requires c κs = search needs
 
-enum-known-x : tie.Need-enum-known-x
-enum-known-x c = search needs
+enum-known-y : tie.Need-enum-known-y
+enum-known-y c = search needs
 
 enum-told-3 : tie.Need-enum-told-3
 enum-told-3 c = search needs
 
 returns : tie.Need-returns
-returns c = looks-through _ _ _ _ _ _ (an-expr (c .enum-told .given .1) (c .before .before .scope-with .ensures)) (c .before .before .before .outer .ensures)
+returns c = looks-through _ _ _ _ _ _ _ (an-expr (c .enum-told .given .1) (c .before .before .scope-with .ensures)) (c .before .before .before .outer .ensures)
 
 returns-2 : tie.Need-returns-2
-returns-2 c = looks-here _ _ _ _ _ (a-name (c .before .x .given .1) (c .before .before .before .defined-in .ensures))
+returns-2 c = looks-here _ _ _ _ _ _ (a-name (c .before .y .given .1) (c .before .before .before .defined-in .ensures))
 
 returns-3 : tie.Need-returns-3
-returns-3 c = looks-on _ _ _ _ _ (no-name (c .enum-told3 .given .1) (c .before .before .defined-in .ensures)) (c .before .before .before .before .before .before .outer .ensures)
+returns-3 c = looks-on _ _ _ _ _ _ (no-name (c .enum-told3 .given .1) (c .before .before .defined-in .ensures)) (c .before .before .before .before .before .before .outer .ensures)
 
 pub look-spec : {M : Type 1} → statement M
 look-spec =
@@ -44,7 +44,7 @@ look-spec =
     enum-told
     enum-told-2
     defined-in-requires
-    enum-known-x
+    enum-known-y
     enum-told-3
     returns
     returns-2
