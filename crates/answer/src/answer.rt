@@ -6,7 +6,7 @@ ghost use Rattle.answer.specs.Answers.{meant_by};
 use module::{MaybeName, NameId};
 
 // What a Reference means.
-#[derive(Drop)]
+#[derive(Clone, Copy)]
 pub enum Answer {
     Unresolved,
     Definition(NameId),
@@ -14,7 +14,7 @@ pub enum Answer {
     Withs,
 }
 
-#[derive(Drop)]
+#[derive(Clone, Copy)]
 pub enum MaybeAnswer {
     Kept(Answer),
     Absent,

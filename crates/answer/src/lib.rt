@@ -2,6 +2,8 @@
 //
 // One answer has three forms, and all who keep, read or tell one turn it here. It knows no byte offset. The Withs of an
 // answer are no part of it: they are those of the scopes around the Reference.
+#![tactic(auto)]
+
 mod answer;
 mod told;
 mod word;

@@ -2,6 +2,8 @@
 // into the buffer that the host lent, if that has room for all of it.
 //
 // Refusals are checked in the order of the definitions (Calls.antt), and a refused call writes its reply alone.
+#![tactic(auto)]
+
 ghost use Rattle.std.specs.Prelude.{◌≡◌, ◌≤◌, length};
 ghost use Rattle.spec.specs.Calls.{fit, reply_bytes, ask_reference, ask_name, with_list};
 ghost use Rattle.layout.specs.Layout.{Long};

@@ -8,7 +8,7 @@ use crate::table::{first_at, length_at, row_at};
 use words::equal_to;
 
 // The number of a built-in name among them, from 0 on.
-#[derive(Drop)]
+#[derive(Clone, Copy)]
 pub enum MaybeBuiltin {
     Builtin(u32),
     Absent,

@@ -14,7 +14,7 @@ use moving::{count_moved_by_name, count_moved_by_reference};
 use rows::{expr_count, name_count, name_text, reference_text};
 
 // A refusal's number and place; a text that is there already, which changes nothing; or how many answers it moves.
-#[derive(Drop)]
+#[derive(Clone, Copy)]
 pub enum Verdict {
     Refused(u32, u32),
     Equal,

@@ -2,6 +2,8 @@
 // told which answers are others then.
 //
 // A change is judged first, by reading alone. A refused one writes its reply and nothing else.
+#![tactic(auto)]
+
 ghost use Rattle.std.specs.Prelude.{◌≡◌, ◌≤◌, length};
 ghost use Rattle.spec.specs.Calls.{fit, reply_bytes, change_reference, change_name};
 ghost use Rattle.soundness.specs.Sound.{condition_of};

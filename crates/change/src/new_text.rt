@@ -15,7 +15,7 @@ const TEXT_LIMIT: usize = 255;
 const ROOM: usize = ROOM_LIMIT as usize;
 
 // A refusal's number and place; the text that is there already; or another one, which may be set.
-#[derive(Drop)]
+#[derive(Clone, Copy)]
 pub enum NewText {
     Unfit(u32, u32),
     Same,

@@ -13,28 +13,28 @@ use sheet::{Fault, KidStep, Node, NodeRead, NumberRead, Position, decode_text, n
 use words::put32;
 
 // How many places are in use; or there are not enough of them.
-#[derive(Drop)]
+#[derive(Clone, Copy)]
 enum Room {
     Upto(u32),
     Full,
 }
 
 // The word of a kid, and the place of the next one in the sheet.
-#[derive(Drop)]
+#[derive(Clone, Copy)]
 enum KidWord {
     End,
     Word(u32, usize),
 }
 
 // The place of the next node in the sheet, and where its kids and its text will lie.
-#[derive(Drop)]
+#[derive(Clone, Copy)]
 pub struct Front {
     pub next: Position,
     pub kids: u32,
     pub texts: u32,
 }
 
-#[derive(Drop)]
+#[derive(Clone, Copy)]
 enum Step {
     More(Front),
     Full,

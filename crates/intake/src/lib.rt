@@ -1,4 +1,6 @@
 // What a load brings in first and then only reads: the texts and the nodes of a sheet.
+#![tactic(auto)]
+
 mod bring;
 mod nodes;
 

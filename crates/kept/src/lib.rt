@@ -1,6 +1,8 @@
 // What a store keeps beside the module: scopes, answers, references, and how much of the change room is spent.
 //
 // Every contract is an equation on what the bytes say, and says what else stays as it was.
+#![tactic(auto)]
+
 mod answers;
 mod changes;
 mod holding;

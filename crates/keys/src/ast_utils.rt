@@ -32,7 +32,7 @@ const DEPTH: u32 = 256;
 const EMPTY: TextId = TextId(ABSENT);
 
 // A static key by its text, or another by the expression that makes it.
-#[derive(Drop)]
+#[derive(Clone, Copy)]
 pub enum AttrKind {
     Static(TextId),
     Dynamic(MaybeNode),

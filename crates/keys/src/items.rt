@@ -7,7 +7,7 @@ use intake::{kid, kid_count};
 use module::{MaybeNode, NodeId};
 
 // An item, and the place after it.
-#[derive(Drop)]
+#[derive(Clone, Copy)]
 pub enum NextItem {
     End,
     Item(NodeId, u32),

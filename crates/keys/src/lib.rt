@@ -1,5 +1,7 @@
 // What a node says of itself and of its kids: its items one by one, which key an attribute is, and the
 // value of a Float or an Integer. The functions of ast_utils.rs, over the nodes in a store.
+#![tactic(auto)]
+
 mod ast_utils;
 mod items;
 mod literals;

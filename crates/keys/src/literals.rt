@@ -22,13 +22,13 @@ const LARGEST_INTEGER: u64 = 9223372036854775807;
 const LARGEST_FLOAT: u64 = 9218868437227405312;
 
 // How a text says a number: by decimal digits, or by bytes, the highest first.
-#[derive(Drop)]
+#[derive(Clone, Copy)]
 enum Spelling {
     Digits,
     Bytes,
 }
 
-#[derive(Drop)]
+#[derive(Clone, Copy)]
 pub enum MaybeLiteral {
     Absent,
     Literal(Literal),

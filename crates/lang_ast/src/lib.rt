@@ -3,6 +3,8 @@
 //
 // Every argument of every call is answered, and every promise here is that of a crate below, where the work is done.
 // What holds of every list of calls is a theorem about these very promises (proofs/Calls.antt).
+#![tactic(auto)]
+
 ghost use Rattle.std.specs.Prelude.{◌≡◌, length};
 ghost use Rattle.spec.specs.Calls.{ask_reference, ask_name, change_reference, change_name};
 ghost use Rattle.replies.specs.Replies.{returned, reply_after, buffer_after, load_outcome};

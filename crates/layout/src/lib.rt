@@ -4,6 +4,8 @@
 // offsets; nobody above does.
 // This one has the decoding of any bytes (specs/), what a write leaves as it was (proofs/), and the
 // writes that the others share.
+#![tactic(auto)]
+
 mod rows;
 pub mod tables;
 

@@ -5,6 +5,8 @@
 // that it means, from the last expression down to the first, so that each list comes out ascending, and
 // then the lists are written one after the other. While they are linked they lie in the room of the
 // items that wait, which nobody reads between loads.
+#![tactic(auto)]
+
 mod linking;
 mod lists;
 mod meaning;

@@ -1,4 +1,6 @@
 // A load: a sheet is judged first, which writes nothing; an accepted one then fills the store.
+#![tactic(auto)]
+
 ghost use Rattle.std.specs.Prelude.{◌≡◌};
 ghost use Rattle.layout.specs.Layout.{Long};
 ghost use Rattle.replies.specs.Replies.{returned, reply_after, load_outcome};

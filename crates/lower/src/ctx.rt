@@ -44,7 +44,7 @@ use open_sets::{SetId, cut, entry_count, open_set, set_count};
 use store::{alloc_expr, alloc_missing, push_item, waiting_count};
 
 // lower_expr and lower_expr_inner: by the kind of the node.
-#[cycle(attr_attrs_binds_binop_cond_entries_entry_expr_field_fields_get_has_heir_inherit_join_keyed_lambda_last_let_in_list_nest_nested_opt_pair_part_parts_path_push_put_set_src_step_str_there_unop)]
+#[cycle(exprs)]
 pub fn expr(store: &mut [u8], depth: u32, n: NodeId) -> ExprId
     requires { Long store.old }
     ensures { LowersNode depth n.0 store.old result.0 store.new }
@@ -85,7 +85,7 @@ pub fn expr(store: &mut [u8], depth: u32, n: NodeId) -> ExprId
 }
 
 // lower_expr_opt
-#[cycle(attr_attrs_binds_binop_cond_entries_entry_expr_field_fields_get_has_heir_inherit_join_keyed_lambda_last_let_in_list_nest_nested_opt_pair_part_parts_path_push_put_set_src_step_str_there_unop)]
+#[cycle(exprs)]
 fn opt(store: &mut [u8], depth: u32, place: MaybeNode) -> ExprId
     requires { Long store.old }
     ensures { Lowering 0 (heft (node_of place)) one_expr (λ nodes. lower_opt nodes (lower_at depth nodes) (merge_at depth nodes) (node_of place)) store.old result.0 store.new }
@@ -97,7 +97,7 @@ fn opt(store: &mut [u8], depth: u32, place: MaybeNode) -> ExprId
 }
 
 // An expression that may be left out.
-#[cycle(attr_attrs_binds_binop_cond_entries_entry_expr_field_fields_get_has_heir_inherit_join_keyed_lambda_last_let_in_list_nest_nested_opt_pair_part_parts_path_push_put_set_src_step_str_there_unop)]
+#[cycle(exprs)]
 fn there(store: &mut [u8], depth: u32, place: MaybeNode) -> MaybeExpr
     requires { Long store.old }
     ensures { Lowering 0 (λ nodes. room.place nodes (node_of place)) nothing (λ nodes. lower_if_there nodes (lower_at depth nodes) (merge_at depth nodes) (node_of place)) store.old (expr_of result) store.new }
@@ -109,7 +109,7 @@ fn there(store: &mut [u8], depth: u32, place: MaybeNode) -> MaybeExpr
 }
 
 // Apply, With and Assert.
-#[cycle(attr_attrs_binds_binop_cond_entries_entry_expr_field_fields_get_has_heir_inherit_join_keyed_lambda_last_let_in_list_nest_nested_opt_pair_part_parts_path_push_put_set_src_step_str_there_unop)]
+#[cycle(exprs)]
 fn pair(store: &mut [u8], depth: u32, n: NodeId, kind: u32) -> ExprId
     requires { Long store.old }
     ensures { Lowering 0 (below n.0) own_node (λ nodes. lowering.pair nodes (lower_at depth nodes) (merge_at depth nodes) (form_of kind) n.0) store.old result.0 store.new }
@@ -124,7 +124,7 @@ fn pair(store: &mut [u8], depth: u32, n: NodeId, kind: u32) -> ExprId
 }
 
 // IfElse.
-#[cycle(attr_attrs_binds_binop_cond_entries_entry_expr_field_fields_get_has_heir_inherit_join_keyed_lambda_last_let_in_list_nest_nested_opt_pair_part_parts_path_push_put_set_src_step_str_there_unop)]
+#[cycle(exprs)]
 fn cond(store: &mut [u8], depth: u32, n: NodeId) -> ExprId
     requires { Long store.old }
     ensures { Lowering 0 (below n.0) own_node (λ nodes. lower_if_else nodes (lower_at depth nodes) (merge_at depth nodes) n.0) store.old result.0 store.new }
@@ -141,7 +141,7 @@ fn cond(store: &mut [u8], depth: u32, n: NodeId) -> ExprId
 }
 
 // Select: what is at an attribute path of a set.
-#[cycle(attr_attrs_binds_binop_cond_entries_entry_expr_field_fields_get_has_heir_inherit_join_keyed_lambda_last_let_in_list_nest_nested_opt_pair_part_parts_path_push_put_set_src_step_str_there_unop)]
+#[cycle(exprs)]
 fn get(store: &mut [u8], depth: u32, n: NodeId) -> ExprId
     requires { Long store.old }
     ensures { Lowering 0 (below n.0) own_node (λ nodes. lower_select nodes (lower_at depth nodes) (merge_at depth nodes) n.0) store.old result.0 store.new }
@@ -159,7 +159,7 @@ fn get(store: &mut [u8], depth: u32, n: NodeId) -> ExprId
 }
 
 // HasAttr.
-#[cycle(attr_attrs_binds_binop_cond_entries_entry_expr_field_fields_get_has_heir_inherit_join_keyed_lambda_last_let_in_list_nest_nested_opt_pair_part_parts_path_push_put_set_src_step_str_there_unop)]
+#[cycle(exprs)]
 fn has(store: &mut [u8], depth: u32, n: NodeId) -> ExprId
     requires { Long store.old }
     ensures { Lowering 0 (below n.0) own_node (λ nodes. lower_has_attr nodes (lower_at depth nodes) (merge_at depth nodes) n.0) store.old result.0 store.new }
@@ -175,7 +175,7 @@ fn has(store: &mut [u8], depth: u32, n: NodeId) -> ExprId
 }
 
 // lower_string
-#[cycle(attr_attrs_binds_binop_cond_entries_entry_expr_field_fields_get_has_heir_inherit_join_keyed_lambda_last_let_in_list_nest_nested_opt_pair_part_parts_path_push_put_set_src_step_str_there_unop)]
+#[cycle(exprs)]
 fn str(store: &mut [u8], depth: u32, n: NodeId) -> ExprId
     requires { Long store.old }
     ensures { Lowering 0 (below n.0) one_expr (λ nodes. lower_string nodes (lower_at depth nodes) (merge_at depth nodes) n.0) store.old result.0 store.new }
@@ -192,7 +192,7 @@ fn str(store: &mut [u8], depth: u32, n: NodeId) -> ExprId
 }
 
 // lower_path
-#[cycle(attr_attrs_binds_binop_cond_entries_entry_expr_field_fields_get_has_heir_inherit_join_keyed_lambda_last_let_in_list_nest_nested_opt_pair_part_parts_path_push_put_set_src_step_str_there_unop)]
+#[cycle(exprs)]
 fn path(store: &mut [u8], depth: u32, n: NodeId) -> ExprId
     requires { Long store.old }
     ensures { Lowering 0 (below n.0) own_node (λ nodes. lower_path nodes (lower_at depth nodes) (merge_at depth nodes) n.0) store.old result.0 store.new }
@@ -208,7 +208,7 @@ fn path(store: &mut [u8], depth: u32, n: NodeId) -> ExprId
 }
 
 // lower_string_interpolation: every part waits as an item.
-#[cycle(attr_attrs_binds_binop_cond_entries_entry_expr_field_fields_get_has_heir_inherit_join_keyed_lambda_last_let_in_list_nest_nested_opt_pair_part_parts_path_push_put_set_src_step_str_there_unop)]
+#[cycle(exprs)]
 fn parts(store: &mut [u8], depth: u32, n: NodeId)
     requires { Long store.old }
     ensures { Collecting 0 (below n.0) nothing (map part_item) (λ nodes. each (lower_part nodes (lower_at depth nodes) (merge_at depth nodes)) (items nodes n.0)) store.old store.new }
@@ -226,7 +226,7 @@ fn parts(store: &mut [u8], depth: u32, n: NodeId)
 }
 
 // A part of a string or a path.
-#[cycle(attr_attrs_binds_binop_cond_entries_entry_expr_field_fields_get_has_heir_inherit_join_keyed_lambda_last_let_in_list_nest_nested_opt_pair_part_parts_path_push_put_set_src_step_str_there_unop)]
+#[cycle(exprs)]
 fn part(store: &mut [u8], depth: u32, n: NodeId)
     requires { Long store.old }
     ensures { Collecting 0 (λ nodes. sized nodes n.0) nothing (one part_item) (λ nodes. lower_part nodes (lower_at depth nodes) (merge_at depth nodes) n.0) store.old store.new }
@@ -242,7 +242,7 @@ fn part(store: &mut [u8], depth: u32, n: NodeId)
 }
 
 // lower_attrpath_opt: every attribute waits as an item.
-#[cycle(attr_attrs_binds_binop_cond_entries_entry_expr_field_fields_get_has_heir_inherit_join_keyed_lambda_last_let_in_list_nest_nested_opt_pair_part_parts_path_push_put_set_src_step_str_there_unop)]
+#[cycle(exprs)]
 fn attrs(store: &mut [u8], depth: u32, place: MaybeNode)
     requires { Long store.old }
     ensures { Collecting 0 (λ nodes. room.place nodes (node_of place)) nothing (map child) (λ nodes. lower_attrpath_opt nodes (lower_at depth nodes) (merge_at depth nodes) (node_of place)) store.old store.new }
@@ -261,7 +261,7 @@ fn attrs(store: &mut [u8], depth: u32, place: MaybeNode)
 }
 
 // An attribute of a path.
-#[cycle(attr_attrs_binds_binop_cond_entries_entry_expr_field_fields_get_has_heir_inherit_join_keyed_lambda_last_let_in_list_nest_nested_opt_pair_part_parts_path_push_put_set_src_step_str_there_unop)]
+#[cycle(exprs)]
 fn attr(store: &mut [u8], depth: u32, n: NodeId) -> ExprId
     requires { Long store.old }
     ensures { Lowering 0 (below n.0) one_expr (λ nodes. lower_attr nodes (lower_at depth nodes) (merge_at depth nodes) n.0) store.old result.0 store.new }
@@ -278,7 +278,7 @@ fn attr(store: &mut [u8], depth: u32, n: NodeId) -> ExprId
 }
 
 // lower_lambda
-#[cycle(attr_attrs_binds_binop_cond_entries_entry_expr_field_fields_get_has_heir_inherit_join_keyed_lambda_last_let_in_list_nest_nested_opt_pair_part_parts_path_push_put_set_src_step_str_there_unop)]
+#[cycle(exprs)]
 fn lambda(store: &mut [u8], depth: u32, n: NodeId) -> ExprId
     requires { Long store.old }
     ensures { Lowering 0 (below n.0) own_node (λ nodes. lower_lambda nodes (lower_at depth nodes) (merge_at depth nodes) n.0) store.old result.0 store.new }
@@ -299,7 +299,7 @@ fn lambda(store: &mut [u8], depth: u32, n: NodeId) -> ExprId
 }
 
 // The fields of a pattern, if there is one: each waits as an item.
-#[cycle(attr_attrs_binds_binop_cond_entries_entry_expr_field_fields_get_has_heir_inherit_join_keyed_lambda_last_let_in_list_nest_nested_opt_pair_part_parts_path_push_put_set_src_step_str_there_unop)]
+#[cycle(exprs)]
 fn fields(store: &mut [u8], depth: u32, owner: MaybeNode)
     requires { Long store.old }
     ensures { Collecting 0 (λ nodes. sizes nodes (attrs_from nodes 1 (node_of owner))) nothing (map field_item) (λ nodes. each (lower_field nodes (lower_at depth nodes) (merge_at depth nodes)) (attrs_from nodes 1 (node_of owner))) store.old store.new }
@@ -317,7 +317,7 @@ fn fields(store: &mut [u8], depth: u32, owner: MaybeNode)
 }
 
 // A field: its name, then its default.
-#[cycle(attr_attrs_binds_binop_cond_entries_entry_expr_field_fields_get_has_heir_inherit_join_keyed_lambda_last_let_in_list_nest_nested_opt_pair_part_parts_path_push_put_set_src_step_str_there_unop)]
+#[cycle(exprs)]
 fn field(store: &mut [u8], depth: u32, n: NodeId)
     requires { Long store.old }
     ensures { Collecting 0 (λ nodes. sized nodes n.0) nothing (one field_item) (λ nodes. lower_field nodes (lower_at depth nodes) (merge_at depth nodes) n.0) store.old store.new }
@@ -331,7 +331,7 @@ fn field(store: &mut [u8], depth: u32, n: NodeId)
 }
 
 // LetIn: its entries, then its body.
-#[cycle(attr_attrs_binds_binop_cond_entries_entry_expr_field_fields_get_has_heir_inherit_join_keyed_lambda_last_let_in_list_nest_nested_opt_pair_part_parts_path_push_put_set_src_step_str_there_unop)]
+#[cycle(exprs)]
 fn let_in(store: &mut [u8], depth: u32, n: NodeId) -> ExprId
     requires { Long store.old × (kind (nodes_of store.old) n.0 ≡ 12) }
     ensures { Lowering 0 (below n.0) own_node (λ nodes. lower_let_in nodes (lower_at depth nodes) (merge_at depth nodes) n.0) store.old result.0 store.new }
@@ -346,7 +346,7 @@ fn let_in(store: &mut [u8], depth: u32, n: NodeId) -> ExprId
 }
 
 // List.
-#[cycle(attr_attrs_binds_binop_cond_entries_entry_expr_field_fields_get_has_heir_inherit_join_keyed_lambda_last_let_in_list_nest_nested_opt_pair_part_parts_path_push_put_set_src_step_str_there_unop)]
+#[cycle(exprs)]
 fn list(store: &mut [u8], depth: u32, n: NodeId) -> ExprId
     requires { Long store.old }
     ensures { Lowering 0 (below n.0) own_node (λ nodes. lower_list nodes (lower_at depth nodes) (merge_at depth nodes) n.0) store.old result.0 store.new }
@@ -367,7 +367,7 @@ fn list(store: &mut [u8], depth: u32, n: NodeId) -> ExprId
 }
 
 // BinOp: "A flag-0 BinOp lowers its left side first."
-#[cycle(attr_attrs_binds_binop_cond_entries_entry_expr_field_fields_get_has_heir_inherit_join_keyed_lambda_last_let_in_list_nest_nested_opt_pair_part_parts_path_push_put_set_src_step_str_there_unop)]
+#[cycle(exprs)]
 fn binop(store: &mut [u8], depth: u32, n: NodeId) -> ExprId
     requires { Long store.old }
     ensures { Lowering 0 (below n.0) own_node (λ nodes. lower_bin_op nodes (lower_at depth nodes) (merge_at depth nodes) n.0) store.old result.0 store.new }
@@ -386,7 +386,7 @@ fn binop(store: &mut [u8], depth: u32, n: NodeId) -> ExprId
 }
 
 // AttrSet.
-#[cycle(attr_attrs_binds_binop_cond_entries_entry_expr_field_fields_get_has_heir_inherit_join_keyed_lambda_last_let_in_list_nest_nested_opt_pair_part_parts_path_push_put_set_src_step_str_there_unop)]
+#[cycle(exprs)]
 fn set(store: &mut [u8], depth: u32, n: NodeId) -> ExprId
     requires { Long store.old }
     ensures { Lowering 0 (below n.0) own_node (λ nodes. lower_attr_set nodes (lower_at depth nodes) (merge_at depth nodes) n.0) store.old result.0 store.new }
@@ -400,7 +400,7 @@ fn set(store: &mut [u8], depth: u32, n: NodeId) -> ExprId
 }
 
 // UnaryOp.
-#[cycle(attr_attrs_binds_binop_cond_entries_entry_expr_field_fields_get_has_heir_inherit_join_keyed_lambda_last_let_in_list_nest_nested_opt_pair_part_parts_path_push_put_set_src_step_str_there_unop)]
+#[cycle(exprs)]
 fn unop(store: &mut [u8], depth: u32, n: NodeId) -> ExprId
     requires { Long store.old }
     ensures { Lowering 0 (below n.0) own_node (λ nodes. lower_unary_op nodes (lower_at depth nodes) (merge_at depth nodes) n.0) store.old result.0 store.new }
@@ -417,7 +417,7 @@ fn unop(store: &mut [u8], depth: u32, n: NodeId) -> ExprId
 }
 
 // MergingSet::desugar and finish: the bindings wait as items, and of the open sets only those around it stay.
-#[cycle(attr_attrs_binds_binop_cond_entries_entry_expr_field_fields_get_has_heir_inherit_join_keyed_lambda_last_let_in_list_nest_nested_opt_pair_part_parts_path_push_put_set_src_step_str_there_unop)]
+#[cycle(exprs)]
 fn binds(store: &mut [u8], depth: u32, kind: NameKind, n: NodeId)
     requires { Long store.old }
     ensures { Collecting 0 (λ nodes. sizes nodes (merging.entries_of nodes (lower_at depth nodes) (merge_at depth nodes) n.0)) one_set binding_items (λ nodes. merging.desugar nodes (lower_at depth nodes) (merge_at depth nodes) (kind_of kind) n.0) store.old store.new }
@@ -432,7 +432,7 @@ fn binds(store: &mut [u8], depth: u32, kind: NameKind, n: NodeId)
 }
 
 // merge_bindings, one level deeper: the entries join those that the set s has.
-#[cycle(attr_attrs_binds_binop_cond_entries_entry_expr_field_fields_get_has_heir_inherit_join_keyed_lambda_last_let_in_list_nest_nested_opt_pair_part_parts_path_push_put_set_src_step_str_there_unop)]
+#[cycle(exprs)]
 fn join(store: &mut [u8], depth: u32, s: SetId, n: NodeId)
     requires { Long store.old }
     ensures { Lowering (suc s.0) (below n.0) nothing (λ nodes. merge_bindings nodes depth s.0 n.0) store.old tt store.new }
@@ -444,7 +444,7 @@ fn join(store: &mut [u8], depth: u32, s: SetId, n: NodeId)
 }
 
 // The entries of a set or a let.
-#[cycle(attr_attrs_binds_binop_cond_entries_entry_expr_field_fields_get_has_heir_inherit_join_keyed_lambda_last_let_in_list_nest_nested_opt_pair_part_parts_path_push_put_set_src_step_str_there_unop)]
+#[cycle(exprs)]
 fn entries(store: &mut [u8], depth: u32, s: SetId, n: NodeId)
     requires { Long store.old }
     ensures { Lowering (suc s.0) (λ nodes. sizes nodes (merging.entries_of nodes (lower_at depth nodes) (merge_at depth nodes) n.0)) nothing (λ nodes. merge_entries nodes (lower_at depth nodes) (merge_at depth nodes) s.0 n.0) store.old tt store.new }
@@ -462,7 +462,7 @@ fn entries(store: &mut [u8], depth: u32, s: SetId, n: NodeId)
 }
 
 // One entry.
-#[cycle(attr_attrs_binds_binop_cond_entries_entry_expr_field_fields_get_has_heir_inherit_join_keyed_lambda_last_let_in_list_nest_nested_opt_pair_part_parts_path_push_put_set_src_step_str_there_unop)]
+#[cycle(exprs)]
 fn entry(store: &mut [u8], depth: u32, s: SetId, n: NodeId)
     requires { Long store.old }
     ensures { Lowering (suc s.0) (λ nodes. sized nodes n.0) nothing (λ nodes. merge_entry nodes (lower_at depth nodes) (merge_at depth nodes) s.0 n.0) store.old tt store.new }
@@ -475,7 +475,7 @@ fn entry(store: &mut [u8], depth: u32, s: SetId, n: NodeId)
 }
 
 // merge_inherit
-#[cycle(attr_attrs_binds_binop_cond_entries_entry_expr_field_fields_get_has_heir_inherit_join_keyed_lambda_last_let_in_list_nest_nested_opt_pair_part_parts_path_push_put_set_src_step_str_there_unop)]
+#[cycle(exprs)]
 fn inherit(store: &mut [u8], depth: u32, s: SetId, n: NodeId)
     requires { Long store.old }
     ensures { Lowering (suc s.0) (λ nodes. sized nodes n.0) nothing (λ nodes. merge_inherit nodes (lower_at depth nodes) (merge_at depth nodes) s.0 n.0) store.old tt store.new }
@@ -495,7 +495,7 @@ fn inherit(store: &mut [u8], depth: u32, s: SetId, n: NodeId)
 }
 
 // The source of an inherit, if it has one.
-#[cycle(attr_attrs_binds_binop_cond_entries_entry_expr_field_fields_get_has_heir_inherit_join_keyed_lambda_last_let_in_list_nest_nested_opt_pair_part_parts_path_push_put_set_src_step_str_there_unop)]
+#[cycle(exprs)]
 fn src(store: &mut [u8], depth: u32, s: SetId, place: MaybeNode) -> MaybeExpr
     requires { Long store.old }
     ensures { Lowering (suc s.0) (λ nodes. room.place nodes (node_of place)) nothing (λ nodes. inherit_source nodes (lower_at depth nodes) (merge_at depth nodes) s.0 (node_of place)) store.old (expr_of result) store.new }
@@ -512,7 +512,7 @@ fn src(store: &mut [u8], depth: u32, s: SetId, place: MaybeNode) -> MaybeExpr
 }
 
 // One inherited attribute. "A dynamic inherited one: a Missing key and its value."
-#[cycle(attr_attrs_binds_binop_cond_entries_entry_expr_field_fields_get_has_heir_inherit_join_keyed_lambda_last_let_in_list_nest_nested_opt_pair_part_parts_path_push_put_set_src_step_str_there_unop)]
+#[cycle(exprs)]
 fn heir(store: &mut [u8], depth: u32, s: SetId, from_set: MaybeExpr, n: NodeId)
     requires { Long store.old }
     ensures { Lowering (suc s.0) (λ nodes. sized nodes n.0) nothing (λ nodes. inherit_attr nodes (lower_at depth nodes) (merge_at depth nodes) s.0 (expr_of from_set) n.0) store.old tt store.new }
@@ -528,7 +528,7 @@ fn heir(store: &mut [u8], depth: u32, s: SetId, from_set: MaybeExpr, n: NodeId)
 }
 
 // merge_attrpath_val: without an attribute the key is Missing.
-#[cycle(attr_attrs_binds_binop_cond_entries_entry_expr_field_fields_get_has_heir_inherit_join_keyed_lambda_last_let_in_list_nest_nested_opt_pair_part_parts_path_push_put_set_src_step_str_there_unop)]
+#[cycle(exprs)]
 fn put(store: &mut [u8], depth: u32, s: SetId, n: NodeId)
     requires { Long store.old }
     ensures { Lowering (suc s.0) (λ nodes. sized nodes n.0) nothing (λ nodes. merge_attrpath_val nodes (lower_at depth nodes) (merge_at depth nodes) s.0 n.0) store.old tt store.new }
@@ -543,7 +543,7 @@ fn put(store: &mut [u8], depth: u32, s: SetId, n: NodeId)
 }
 
 // merge_nested_attr_value: the attribute n, then those of the path from `after` on, then the value.
-#[cycle(attr_attrs_binds_binop_cond_entries_entry_expr_field_fields_get_has_heir_inherit_join_keyed_lambda_last_let_in_list_nest_nested_opt_pair_part_parts_path_push_put_set_src_step_str_there_unop)]
+#[cycle(exprs)]
 fn nested(
     store: &mut [u8],
     depth: u32,
@@ -563,7 +563,7 @@ fn nested(
 }
 
 // An attribute before the end of a path. "A Dynamic key before the end of a path: nested set first, key second."
-#[cycle(attr_attrs_binds_binop_cond_entries_entry_expr_field_fields_get_has_heir_inherit_join_keyed_lambda_last_let_in_list_nest_nested_opt_pair_part_parts_path_push_put_set_src_step_str_there_unop)]
+#[cycle(exprs)]
 fn step(
     store: &mut [u8],
     depth: u32,
@@ -592,7 +592,7 @@ fn step(
 }
 
 // The nested set of a key that is not static, built at once.
-#[cycle(attr_attrs_binds_binop_cond_entries_entry_expr_field_fields_get_has_heir_inherit_join_keyed_lambda_last_let_in_list_nest_nested_opt_pair_part_parts_path_push_put_set_src_step_str_there_unop)]
+#[cycle(exprs)]
 fn nest(
     store: &mut [u8],
     depth: u32,
@@ -615,7 +615,7 @@ fn nest(
 }
 
 // merge_attr_value: the last attribute of a path and the value.
-#[cycle(attr_attrs_binds_binop_cond_entries_entry_expr_field_fields_get_has_heir_inherit_join_keyed_lambda_last_let_in_list_nest_nested_opt_pair_part_parts_path_push_put_set_src_step_str_there_unop)]
+#[cycle(exprs)]
 fn last(store: &mut [u8], depth: u32, s: SetId, n: NodeId, value: MaybeNode)
     requires { Long store.old }
     ensures { Lowering (suc s.0) (λ nodes. sized nodes n.0 + room.place nodes (node_of value)) nothing (λ nodes. merge_attr_value nodes (lower_at depth nodes) (merge_at depth nodes) s.0 n.0 (node_of value)) store.old tt store.new }
@@ -627,7 +627,7 @@ fn last(store: &mut [u8], depth: u32, s: SetId, n: NodeId, value: MaybeNode)
 }
 
 // "a value AttrSet, not in Parens, merges into a nested set already there"
-#[cycle(attr_attrs_binds_binop_cond_entries_entry_expr_field_fields_get_has_heir_inherit_join_keyed_lambda_last_let_in_list_nest_nested_opt_pair_part_parts_path_push_put_set_src_step_str_there_unop)]
+#[cycle(exprs)]
 fn keyed(store: &mut [u8], depth: u32, s: SetId, key: TextId, n: NodeId, value: MaybeNode)
     requires { Long store.old }
     ensures { Lowering (suc s.0) (λ nodes. room.place nodes (node_of value)) (price 2 1 1 2 0 1) (λ nodes. merge_keyed nodes (lower_at depth nodes) (merge_at depth nodes) s.0 (text_in store.old key.0) n.0 (node_of value)) store.old tt store.new }
@@ -643,7 +643,7 @@ fn keyed(store: &mut [u8], depth: u32, s: SetId, key: TextId, n: NodeId, value: 
 }
 
 // push_dynamic: "At the end: key, then value."
-#[cycle(attr_attrs_binds_binop_cond_entries_entry_expr_field_fields_get_has_heir_inherit_join_keyed_lambda_last_let_in_list_nest_nested_opt_pair_part_parts_path_push_put_set_src_step_str_there_unop)]
+#[cycle(exprs)]
 fn push(store: &mut [u8], depth: u32, s: SetId, key: MaybeNode, value: MaybeNode)
     requires { Long store.old }
     ensures { Lowering (suc s.0) (λ nodes. heft (node_of key) nodes + heft (node_of value) nodes) (price 3 1 0 0 0 1) (λ nodes. push_dynamic nodes (lower_at depth nodes) (merge_at depth nodes) s.0 (node_of key) (node_of value)) store.old tt store.new }

@@ -5,6 +5,8 @@
 // than in lower.rs: the proof of a cycle of calls is named after all its members, and crates above load
 // what is proved of it only from modules whose full names have less than 250 bytes; else they check it
 // again. The comment at a function says which it is.
+#![tactic(auto)]
+
 mod ctx;
 mod leaves;
 mod reads;

@@ -15,7 +15,7 @@ use module::{MaybeNode, NodeId, Pattern, Pointer, TextId};
 use open_sets::{MaybeSet, SetId};
 
 // The counted places of a node, of which none has more than three, and its pointer.
-#[derive(Drop)]
+#[derive(Clone, Copy)]
 pub struct Children {
     pub first: MaybeNode,
     pub second: MaybeNode,
@@ -37,7 +37,7 @@ pub fn children_of(store: &[u8], n: NodeId) -> Children
 
 // The parameter of a Lambda: the Ident that names it, the Pattern whose fields there are, and what the
 // expression says of that.
-#[derive(Drop)]
+#[derive(Clone, Copy)]
 pub struct Param {
     pub ident: MaybeNode,
     pub owner: MaybeNode,
@@ -121,7 +121,7 @@ pub fn first_entry(store: &[u8], n: NodeId) -> u32
 }
 
 // Whether a value is an AttrSet that merges into a nested set already there.
-#[derive(Drop)]
+#[derive(Clone, Copy)]
 pub enum IntoSet {
     Merged(SetId, NodeId),
     Other,

@@ -20,7 +20,7 @@ use open_sets::{
 use store::{alloc_expr, alloc_missing, push_item, waiting_count};
 
 // docs/RULES.md, "Finishing": "a nested set still wins"
-#[cycle(finish_finish_entry_finish_expr_finish_value)]
+#[cycle(finishing)]
 fn finish_value(store: &mut [u8], bound: u32, nested: MaybeSet, value: MaybeValue) -> BindingValue
     requires { Long store.old }
     ensures { Finishing (value_load (load (entries_of store.old) bound) (maybe_set_of nested) (maybe_value_of value)) (finish_value (finish_to bound) (maybe_set_of nested) (maybe_value_of value)) store.old (binding_of result) store.new }
@@ -41,7 +41,7 @@ fn finish_value(store: &mut [u8], bound: u32, nested: MaybeSet, value: MaybeValu
 }
 
 // Pushes the item of an entry.
-#[cycle(finish_finish_entry_finish_expr_finish_value)]
+#[cycle(finishing)]
 fn finish_entry(store: &mut [u8], bound: u32, e: Entry)
     requires { Long store.old }
     ensures { Listing (entry_load (load (entries_of store.old) bound) (entry_with store.old e)) only (finish_entry (finish_to bound) (entry_with store.old e)) store.old store.new }
@@ -61,7 +61,7 @@ fn finish_entry(store: &mut [u8], bound: u32, e: Entry)
 }
 
 // Pushes the bindings of a set, in the order of the run.
-#[cycle(finish_finish_entry_finish_expr_finish_value)]
+#[cycle(finishing)]
 pub fn finish(store: &mut [u8], bound: u32, s: SetId)
     requires { Long store.old }
     ensures { Listing (loads (entries_of store.old) bound s.0) binding_items (finish_with (finish_to bound) s.0) store.old store.new }
@@ -81,7 +81,7 @@ pub fn finish(store: &mut [u8], bound: u32, s: SetId)
 }
 
 // The set as an expression.
-#[cycle(finish_finish_entry_finish_expr_finish_value)]
+#[cycle(finishing)]
 pub fn finish_expr(store: &mut [u8], bound: u32, s: SetId) -> ExprId
     requires { Long store.old }
     ensures { Finishing (load (entries_of store.old) bound s.0) (finish_to bound s.0) store.old result.0 store.new }

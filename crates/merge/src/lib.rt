@@ -2,6 +2,8 @@
 //
 // It knows no byte offset. Here too is how a step of the code is a step of the definitions, and what
 // it may take of a store's room (specs/).
+#![tactic(auto)]
+
 mod finish;
 mod inherit;
 mod merge;

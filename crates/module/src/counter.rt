@@ -1,7 +1,7 @@
 // How many rows of a table are in use: the number of the next one.
 ghost use Rattle.std.specs.Prelude.{◌≡◌, ◌+◌, ◌<◌, ltb};
 
-#[derive(Drop)]
+#[derive(Clone, Copy)]
 pub struct Counter {
     pub used: u32,
 }

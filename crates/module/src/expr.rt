@@ -3,14 +3,14 @@ use crate::ids::{BindingValue, ExprId, MaybeExpr, MaybeName, NameId, TextId};
 use crate::literal::Literal;
 
 // Whether a Lambda has a pattern, and whether that ends in an ellipsis.
-#[derive(Drop)]
+#[derive(Clone, Copy)]
 pub enum Pattern {
     Absent,
     Closed,
     Ellipsis,
 }
 
-#[derive(Drop)]
+#[derive(Clone, Copy)]
 pub enum Expr {
     Missing,
     // Function, argument.
@@ -45,7 +45,7 @@ pub enum Expr {
 }
 
 // One of an expression's items.
-#[derive(Drop)]
+#[derive(Clone, Copy)]
 pub enum Item {
     // An item of a list, an attribute of a path, an interpolated part, a source of an inherit.
     Child(ExprId),

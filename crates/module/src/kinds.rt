@@ -2,7 +2,7 @@
 ghost use Rattle.std.specs.Prelude.{◌≡◌};
 ghost use Rattle.module.specs.Kinds.{number_of_kind, kind_of_number};
 
-#[derive(Drop)]
+#[derive(Clone, Copy)]
 pub enum NameKind {
     LetIn,
     PlainAttrset,

@@ -3,6 +3,8 @@
 //
 // It knows the definitions and nothing of a store. What each case of an enum is in the definitions
 // stands in specs/.
+#![tactic(auto)]
+
 mod counter;
 mod expr;
 mod ids;

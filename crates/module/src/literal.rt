@@ -5,7 +5,7 @@ ghost use Rattle.module.specs.Literals.{float_bits, nat_of, Unsigned, NotNegativ
 
 use crate::ids::TextId;
 
-#[derive(Drop)]
+#[derive(Clone, Copy)]
 pub enum Literal {
     Float(f64),
     Integer(i64),

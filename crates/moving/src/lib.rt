@@ -3,6 +3,8 @@
 //
 // A changed Reference moves its own answer only; a changed name those of References that bear its old or its new text
 // and lie inside the scope that holds it. Nothing else is resolved again. It knows no byte offset.
+#![tactic(auto)]
+
 mod by_name;
 mod by_reference;
 mod moved;

@@ -8,7 +8,7 @@ use kept::kept_answer;
 use module::ExprId;
 
 // What becomes of an answer.
-#[derive(Drop)]
+#[derive(Clone, Copy)]
 pub enum Moved {
     To(Answer),
     Stays,

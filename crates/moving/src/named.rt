@@ -16,7 +16,7 @@ use rows::name_text;
 use texts::{text_is, texts_equal};
 
 // With the text that it has and the scope that holds it, which are looked for once.
-#[derive(Drop)]
+#[derive(Clone, Copy)]
 pub struct Named {
     pub name: NameId,
     pub text: TextId,

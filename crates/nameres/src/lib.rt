@@ -2,6 +2,8 @@
 // name.
 //
 // It knows no byte offset. Every contract is an equation with the definitions of what a store keeps.
+#![tactic(auto)]
+
 mod resolution;
 mod whole;
 

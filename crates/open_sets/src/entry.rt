@@ -2,22 +2,22 @@
 use module::{BindingValue, ExprId, NameId, TextId};
 
 // Sets are numbered from 0 as they are opened.
-#[derive(Drop)]
+#[derive(Clone, Copy)]
 pub struct SetId(pub u32);
 
-#[derive(Drop)]
+#[derive(Clone, Copy)]
 pub enum MaybeSet {
     Set(SetId),
     Absent,
 }
 
-#[derive(Drop)]
+#[derive(Clone, Copy)]
 pub enum MaybeValue {
     Value(BindingValue),
     Absent,
 }
 
-#[derive(Drop)]
+#[derive(Clone, Copy)]
 pub enum Entry {
     // Set, key, its name, its nested set, its value.
     Static(SetId, TextId, NameId, MaybeSet, MaybeValue),

@@ -10,7 +10,7 @@ use layout::tables::ABSENT;
 use module::{BindingValue, ExprId, NameId, TextId};
 
 // The words of an entry's row.
-#[derive(Drop)]
+#[derive(Clone, Copy)]
 pub struct EntryRow {
     pub tag: u32,
     pub set: u32,
@@ -22,7 +22,7 @@ pub struct EntryRow {
 }
 
 // The words of a value.
-#[derive(Drop)]
+#[derive(Clone, Copy)]
 pub struct ValueWords {
     pub sort: u32,
     pub value: u32,

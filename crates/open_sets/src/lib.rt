@@ -2,6 +2,8 @@
 //
 // Sets and their entries are two tables used as stacks; beside them lies the run, the entries' numbers
 // in the order of sets, classes and keys, so that a key is found by halving.
+#![tactic(auto)]
+
 mod add;
 mod entries;
 mod entry;

@@ -17,13 +17,13 @@ use layout::wide;
 use module::TextId;
 use words::{Order, get32};
 
-#[derive(Drop)]
+#[derive(Clone, Copy)]
 pub enum MaybeEntry {
     Entry(u32),
     Absent,
 }
 
-#[derive(Drop)]
+#[derive(Clone, Copy)]
 pub enum NextEntry {
     End,
     Entry(Entry),

@@ -10,7 +10,7 @@ use module::TextId;
 use texts::compare_texts;
 use words::Order;
 
-#[derive(Drop)]
+#[derive(Clone, Copy)]
 pub struct Standing {
     pub set: u32,
     // 0 static, 1 source, 2 dynamic.

@@ -4,6 +4,8 @@
 // No contract can say what a program writes, and nothing here returns anything or writes to what is lent. What the
 // lines say comes from `ask::ask_reference`, the function behind the exported call, so that they are what a host
 // is told.
+#![tactic(auto)]
+
 mod answers;
 mod lines;
 

@@ -1,5 +1,7 @@
 // One text put in place of another: the answers that it moves are moved and listed, a row gets it, and its length is
 // spent. Whether a change may be made is its caller's to check.
+#![tactic(auto)]
+
 ghost use Rattle.std.specs.Prelude.{◌≡◌, ◌≤◌, length};
 ghost use Rattle.spec.specs.Calls.{at_name, at_reference};
 ghost use Rattle.spec.specs.Kept.{moved_by};

@@ -5,6 +5,8 @@
 // places of two sheets. A function over a struct that holds a slice is proved by a walk of its steps, by hand, so these
 // are few and thin: the work is done by `line_after`, which has a slice and a number, and others call
 // `after_first_line`, which has a slice.
+#![tactic(auto)]
+
 ghost use Rattle.std.specs.Prelude.{◌≡◌, ◌≤◌, length, take};
 ghost use Rattle.reader.specs.Reading.{after_line};
 

@@ -1,6 +1,8 @@
 // Document 01's program refsheet (docs/RULES.md, "Followed examples"): reads a sheet of at most 65,536 bytes from
 // standard input, loads it, and prints how many expressions, names, scopes and duplicate keys it has and what each
 // Reference means; or why it is refused.
+#![tactic(auto)]
+
 use layout::tables::STORE_BYTES;
 use libc::STDIN_FILENO;
 use load::load;

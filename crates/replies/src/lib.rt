@@ -1,6 +1,8 @@
 // What a host is told of a call: the number that is returned, and the five words of the reply that it lent.
 //
 // It knows the outcomes of the definitions (Calls.antt) and where their words lie in a reply, and nothing of a store.
+#![tactic(auto)]
+
 ghost use Rattle.std.specs.Prelude.{◌≡◌, ℕ, ◌≤◌, ◌<◌, length};
 ghost use Rattle.spec.specs.Calls.{reply_bytes, refusal};
 ghost use Rattle.replies.specs.Replies.{Told, ToldMoved, ToldList, ToldAnswer};

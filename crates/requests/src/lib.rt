@@ -2,6 +2,8 @@
 //
 // Any bytes may be the store: one that is not fit is refused before anything more of it is read. What a call comes to,
 // and what it leaves, is said here for all of them (specs/Requests).
+#![tactic(auto)]
+
 ghost use Rattle.std.specs.Prelude.{◌≡◌};
 ghost use Rattle.soundness.specs.Sound.{condition_of};
 ghost use Rattle.soundness.specs.Verdict.{verdict, number_of};

@@ -5,6 +5,8 @@
 //
 // No number that a store holds is trusted: a scope's parents are followed no further than its own number says, so that
 // every walk ends, also where they go round.
+#![tactic(auto)]
+
 mod chain;
 mod definitions;
 mod names;

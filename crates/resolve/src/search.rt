@@ -15,14 +15,14 @@ use kept::scope_with;
 use module::{MaybeExpr, MaybeName, MaybeScope, NameId, ScopeId};
 
 // A definition, and the scope that has it.
-#[derive(Drop)]
+#[derive(Clone, Copy)]
 pub enum Found {
     In(ScopeId, NameId),
     Nowhere,
 }
 
 // What the search comes to at one scope: the definition there, or the scope to go on with.
-#[derive(Drop)]
+#[derive(Clone, Copy)]
 pub enum Step {
     Here(NameId),
     On(MaybeScope),

@@ -2,6 +2,8 @@
 //
 // Every contract is an equation on what the bytes say, for any bytes: a row gives something whatever it holds, and a
 // number out of range what the definitions give.
+#![tactic(auto)]
+
 mod decode;
 mod read_counts;
 mod read_diagnostics;

@@ -21,14 +21,14 @@ use words::get32;
 pub const REFERENCE: u32 = 21;
 
 // A Missing may have no pointer.
-#[derive(Drop)]
+#[derive(Clone, Copy)]
 pub enum MaybePointer {
     Pointer(Pointer),
     Absent,
 }
 
 // Where the items of an expression lie in their table, and how many there are.
-#[derive(Drop)]
+#[derive(Clone, Copy)]
 pub struct Items {
     pub first: u32,
     pub count: u32,

@@ -1,6 +1,6 @@
 // The words of a row, as they are read and written.
 // The words of an expression's row after its first item.
-#[derive(Drop)]
+#[derive(Clone, Copy)]
 pub struct Row {
     pub sort: u32,
     pub a: u32,
@@ -9,7 +9,7 @@ pub struct Row {
 }
 
 // The words of an item's row.
-#[derive(Drop)]
+#[derive(Clone, Copy)]
 pub struct ItemRow {
     pub tag: u32,
     pub a: u32,

@@ -18,7 +18,7 @@ use module::{ExprId, Item, MaybeName, NameKind, Pattern, ScopeId};
 use rows::{item_count, name_kind_of, read_item};
 
 // Which names of its items an expression enters.
-#[derive(Drop)]
+#[derive(Clone, Copy)]
 pub enum Names {
     // Of the fields of a pattern.
     Fields,

@@ -3,6 +3,8 @@
 //
 // It knows no byte offset: the module is read as expressions, items and names, and scopes are opened in
 // steps. A step tests its limits; that a lowered module meets none of them is proved.
+#![tactic(auto)]
+
 mod enters;
 mod picks;
 mod traverse;

@@ -11,7 +11,7 @@ ghost use Rattle.scopes.specs.Picking.{picks_of, picked};
 use module::{BindingValue, ExprId, Item, MaybeExpr};
 use rows::read_item;
 
-#[derive(Drop)]
+#[derive(Clone, Copy)]
 pub enum Pass {
     // Items of a list, attributes of a path, interpolated parts, sources of inherits.
     Children,
@@ -25,7 +25,7 @@ pub enum Pass {
     Dynamics,
 }
 
-#[derive(Drop)]
+#[derive(Clone, Copy)]
 pub enum Picks {
     Nothing,
     One(ExprId),

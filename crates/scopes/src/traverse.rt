@@ -20,7 +20,7 @@ use rows::{item_count, read_expr};
 
 // The expression e stands in the scope, and so do its children, but for those in a scope that it opens.
 // A With opens one for its body alone; an Assert's body is walked before its condition.
-#[cycle(child_pair_traverse_bindings_traverse_expr_traverse_lambda_walk_defaults_walk_items_walk_path_walk_picks)]
+#[cycle(traversal)]
 pub fn traverse_expr(store: &mut [u8], e: ExprId, scope: ScopeId)
     requires { Long store.old }
     ensures { Walks scope.0 (λ m. traverse_expr m scope.0 e.0) store.old tt store.new }
@@ -60,7 +60,7 @@ pub fn traverse_expr(store: &mut [u8], e: ExprId, scope: ScopeId)
 }
 
 // Plain inherits are walked outside, all else inside, the sources of inherits too.
-#[cycle(child_pair_traverse_bindings_traverse_expr_traverse_lambda_walk_defaults_walk_items_walk_path_walk_picks)]
+#[cycle(traversal)]
 fn traverse_bindings(store: &mut [u8], e: ExprId, scope: ScopeId) -> ScopeId
     requires { Long store.old }
     ensures { Walks scope.0 (λ m. traverse_bindings m (below m e.0) (bindings (items_at_expr store.old e.0)) scope.0) store.old result.0 store.new }
@@ -74,7 +74,7 @@ fn traverse_bindings(store: &mut [u8], e: ExprId, scope: ScopeId) -> ScopeId
 }
 
 // A function: defaults and body are walked inside.
-#[cycle(child_pair_traverse_bindings_traverse_expr_traverse_lambda_walk_defaults_walk_items_walk_path_walk_picks)]
+#[cycle(traversal)]
 fn traverse_lambda(store: &mut [u8], e: ExprId, x: MaybeName, p: Pattern, b: ExprId, scope: ScopeId)
     requires { Long store.old }
     ensures { Walks scope.0 (λ m. traverse_lambda m (below m e.0) (name_of x) (pattern_with p (items_at_expr store.old e.0)) b.0 scope.0) store.old tt store.new }
@@ -85,7 +85,7 @@ fn traverse_lambda(store: &mut [u8], e: ExprId, x: MaybeName, p: Pattern, b: Exp
 }
 
 // A function without a pattern has no fields.
-#[cycle(child_pair_traverse_bindings_traverse_expr_traverse_lambda_walk_defaults_walk_items_walk_path_walk_picks)]
+#[cycle(traversal)]
 fn walk_defaults(store: &mut [u8], e: ExprId, p: Pattern, scope: ScopeId)
     requires { Long store.old }
     ensures { Follows e.0 scope.0 (field_defaults (pat_fields (pattern_with p (items_at_expr store.old e.0)))) store.old store.new }
@@ -98,7 +98,7 @@ fn walk_defaults(store: &mut [u8], e: ExprId, p: Pattern, scope: ScopeId)
 }
 
 // The set, the path and the default of a Select; a HasAttr has no default.
-#[cycle(child_pair_traverse_bindings_traverse_expr_traverse_lambda_walk_defaults_walk_items_walk_path_walk_picks)]
+#[cycle(traversal)]
 fn walk_path(store: &mut [u8], e: ExprId, set: ExprId, d: MaybeExpr, scope: ScopeId)
     requires { Long store.old }
     ensures { Follows e.0 scope.0 (set.0 ∷ (children (items_at_expr store.old e.0) ++ one_or_none (expr_of d))) store.old store.new }
@@ -109,7 +109,7 @@ fn walk_path(store: &mut [u8], e: ExprId, set: ExprId, d: MaybeExpr, scope: Scop
 }
 
 // What the items of e hand on in a pass.
-#[cycle(child_pair_traverse_bindings_traverse_expr_traverse_lambda_walk_defaults_walk_items_walk_path_walk_picks)]
+#[cycle(traversal)]
 fn walk_items(store: &mut [u8], e: ExprId, pass: Pass, scope: ScopeId)
     requires { Long store.old }
     ensures { Follows e.0 scope.0 (picked pass (items_at_expr store.old e.0)) store.old store.new }
@@ -124,7 +124,7 @@ fn walk_items(store: &mut [u8], e: ExprId, pass: Pass, scope: ScopeId)
 }
 
 // What one item hands on.
-#[cycle(child_pair_traverse_bindings_traverse_expr_traverse_lambda_walk_defaults_walk_items_walk_path_walk_picks)]
+#[cycle(traversal)]
 fn walk_picks(store: &mut [u8], e: ExprId, handed: Picks, scope: ScopeId)
     requires { Long store.old }
     ensures { Follows e.0 scope.0 (picks_of handed) store.old store.new }
@@ -137,7 +137,7 @@ fn walk_picks(store: &mut [u8], e: ExprId, handed: Picks, scope: ScopeId)
 }
 
 // Two children, in this order.
-#[cycle(child_pair_traverse_bindings_traverse_expr_traverse_lambda_walk_defaults_walk_items_walk_path_walk_picks)]
+#[cycle(traversal)]
 fn pair(store: &mut [u8], e: ExprId, a: ExprId, b: ExprId, scope: ScopeId)
     requires { Long store.old }
     ensures { Follows e.0 scope.0 (a.0 ∷ b.0 ∷ []) store.old store.new }
@@ -147,7 +147,7 @@ fn pair(store: &mut [u8], e: ExprId, a: ExprId, b: ExprId, scope: ScopeId)
 }
 
 // A child whose number is below its owner's.
-#[cycle(child_pair_traverse_bindings_traverse_expr_traverse_lambda_walk_defaults_walk_items_walk_path_walk_picks)]
+#[cycle(traversal)]
 fn child(store: &mut [u8], e: ExprId, c: ExprId, scope: ScopeId)
     requires { Long store.old }
     ensures { Follows e.0 scope.0 (c.0 ∷ []) store.old store.new }

@@ -6,7 +6,7 @@ ghost use Rattle.words.specs.Runs.{run};
 ghost use Rattle.spec.specs.Sheet.{decimal};
 ghost use Rattle.sheet.specs.Decimals.{capped, capped_from, got_decimal};
 
-#[derive(Drop)]
+#[derive(Clone, Copy)]
 pub enum Spelled {
     Number(u64),
     Malformed,

@@ -12,7 +12,7 @@ use crate::lines::LineRead;
 use crate::position::{Fault, Position};
 use crate::verdicts::{SpanRead, Verdict, told};
 
-#[derive(Drop)]
+#[derive(Clone, Copy)]
 enum Kid {
     Absent,
     Number(u32),
@@ -20,7 +20,7 @@ enum Kid {
 }
 
 // A kid, and the place of the next one.
-#[derive(Drop)]
+#[derive(Clone, Copy)]
 pub enum KidStep {
     End,
     Absent(usize),
@@ -29,7 +29,7 @@ pub enum KidStep {
 }
 
 // A verdict, or the place of the next kid and whether all so far were below the limit.
-#[derive(Drop)]
+#[derive(Clone, Copy)]
 enum KidsLeft {
     Told(Verdict),
     More(usize, bool),

@@ -5,7 +5,7 @@ ghost use Rattle.spec.specs.Kinds.{kind_of};
 ghost use Rattle.sheet.specs.Rules.{rule_of};
 
 // What a text may be; `Float` and `Named` where the flag is 1, else such a text is empty.
-#[derive(Drop)]
+#[derive(Clone, Copy)]
 pub enum TextRule {
     NoText,
     AnyText,

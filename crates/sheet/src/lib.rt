@@ -6,6 +6,8 @@
 // For those who come after, `next_kid` goes through a list of kids, and `decode_text` writes the
 // bytes of a text into a slice that is lent to it. Every contract is an equation with the definitions
 // in the crate spec (Sheet.antt, Kinds.antt).
+#![tactic(auto)]
+
 mod decimals;
 mod kids;
 mod kinds;

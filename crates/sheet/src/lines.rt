@@ -8,13 +8,13 @@ ghost use Rattle.sheet.specs.Lines.{after_key, up_to, EndInside, got_line, Value
 use crate::position::{Position, Span};
 
 // Where the line ends, if it does.
-#[derive(Drop)]
+#[derive(Clone, Copy)]
 enum LineEnd {
     At(usize),
     Missing,
 }
 
-#[derive(Drop)]
+#[derive(Clone, Copy)]
 pub enum LineRead {
     Value(Span),
     Malformed,

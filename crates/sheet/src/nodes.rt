@@ -11,7 +11,7 @@ use crate::position::{Fault, Position, Span};
 use crate::verdicts::SpanRead;
 
 // The numbers of a node, where its kids and its text are written, and where the next node starts.
-#[derive(Drop)]
+#[derive(Clone, Copy)]
 pub struct Node {
     pub kind: u32,
     pub from: u32,
@@ -22,7 +22,7 @@ pub struct Node {
     pub next: Position,
 }
 
-#[derive(Drop)]
+#[derive(Clone, Copy)]
 pub enum NodeRead {
     Value(Node),
     Bad(Fault, usize),

@@ -8,7 +8,7 @@ use crate::decimals::{Spelled, decimal};
 use crate::lines::LineRead;
 use crate::position::{Fault, Position};
 
-#[derive(Drop)]
+#[derive(Clone, Copy)]
 pub enum NumberRead {
     Value(u32, Position),
     Bad(Fault, usize),

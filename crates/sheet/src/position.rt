@@ -4,7 +4,7 @@ ghost use Rattle.std.specs.Prelude.{◌≡◌, ◌+◌, ◌<◌};
 // The place of the next line. A reader takes it and hands the next one back. None is put together outside of this
 // file: it is the first line's, or that of the line after a value that was read. So nobody has to know how a line ends
 // to go on to the next.
-#[derive(Drop)]
+#[derive(Clone, Copy)]
 pub struct Position {
     pub at: usize,
 }
@@ -19,7 +19,7 @@ impl Position {
 }
 
 // A part of the sheet: its first place, and the place after its last byte.
-#[derive(Drop)]
+#[derive(Clone, Copy)]
 pub struct Span {
     pub start: usize,
     pub end: usize,
@@ -38,7 +38,7 @@ impl Span {
 
 // A malformed line is refusal 2. A value that is wrong is 3, 31, 32 or 33, by what it is about (`refusal` in
 // sheets.rt).
-#[derive(Drop)]
+#[derive(Clone, Copy)]
 pub enum Fault {
     Malformed,
     WrongCount,

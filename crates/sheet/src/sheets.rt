@@ -8,7 +8,7 @@ use crate::nodes::NodeRead;
 use crate::numbers::NumberRead;
 use crate::position::{Fault, Position};
 
-#[derive(Drop)]
+#[derive(Clone, Copy)]
 enum NodesRead {
     End(Position),
     Bad(Fault, usize),
@@ -16,7 +16,7 @@ enum NodesRead {
 
 // An accepted sheet: how many nodes it has, and where the first one starts. A refused one: the number
 // and the place of the refusal.
-#[derive(Drop)]
+#[derive(Clone, Copy)]
 pub enum SheetRead {
     Accepted(u32, Position),
     Refused(u32, usize),

@@ -6,7 +6,7 @@ ghost use Rattle.sheet.specs.Verdicts.{span_told};
 use crate::position::{Fault, Span};
 
 // Of a value: its form and its rule hold, or its form alone, or not even that.
-#[derive(Drop)]
+#[derive(Clone, Copy)]
 pub enum Verdict {
     Right,
     Wrong,
@@ -14,7 +14,7 @@ pub enum Verdict {
 }
 
 // The span of a line's value. The next line starts after the byte 10 that ends it.
-#[derive(Drop)]
+#[derive(Clone, Copy)]
 pub enum SpanRead {
     Value(Span),
     Bad(Fault, usize),

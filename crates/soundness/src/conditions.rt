@@ -1,5 +1,5 @@
 // How a call finds the store: refusals 21, 22 and 23, in this order.
-#[derive(Drop)]
+#[derive(Clone, Copy)]
 pub enum Condition {
     Fit,
     Short,

@@ -13,7 +13,7 @@ use words::get32;
 
 // What the rows' numbers are held against, read once: how many expressions, names,
 // diagnostics and scopes there are, and how many bytes of texts are in use.
-#[derive(Drop)]
+#[derive(Clone, Copy)]
 pub struct Counts {
     pub exprs: u32,
     pub names: u32,

@@ -2,6 +2,8 @@
 //
 // The check reads the rows in use once, for any bytes, and its answer is an equation with the
 // definition of soundness (specs/Sound.antt), which is docs/STORE.md's lists of numbers.
+#![tactic(auto)]
+
 mod conditions;
 mod counts;
 mod exprs;

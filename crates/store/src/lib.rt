@@ -3,6 +3,8 @@
 //
 // Above it every function speaks of expressions and names. Every contract is an equation on
 // what the bytes say, and an append tests its limit.
+#![tactic(auto)]
+
 mod codes;
 mod exprs;
 mod header;

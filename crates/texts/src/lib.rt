@@ -3,6 +3,8 @@
 //
 // The crates above hold the number of a text and ask here what its bytes are; what any bytes say of a text is layout's
 // definition.
+#![tactic(auto)]
+
 mod add;
 mod held;
 mod read;

@@ -12,7 +12,7 @@ use module::TextId;
 use words::{Order, compare_runs, equal_runs, equal_to, get32};
 
 // Where the bytes of a text lie in the store.
-#[derive(Drop)]
+#[derive(Clone, Copy)]
 pub struct TextSpan {
     pub at: usize,
     pub len: usize,

@@ -4,6 +4,8 @@
 // takes, and how deep a tree may be; it knows no store and writes nothing. A node's number is its place
 // in the walk or the sheet is refused, so the pass goes forward and keeps no rows.
 // Every contract is about the definitions in the crate spec (Kinds.antt, Tree.antt).
+#![tactic(auto)]
+
 mod judging;
 mod nodes;
 mod places;

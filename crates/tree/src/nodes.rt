@@ -5,7 +5,7 @@ ghost use Rattle.tree.specs.Nodes.{nodes_in, Stands, kids_at, Kids, Read, Steppe
 use sheet::{KidStep, NodeRead, Position, next_kid};
 
 // What the walk needs of a node's lines: its kind, the list of its kids, the place of the next node.
-#[derive(Drop)]
+#[derive(Clone, Copy)]
 pub struct Lines {
     pub kind: u32,
     pub kids: usize,
@@ -14,7 +14,7 @@ pub struct Lines {
 }
 
 // A kid, and the place of the next one.
-#[derive(Drop)]
+#[derive(Clone, Copy)]
 pub enum Kid {
     End,
     Absent(usize),
@@ -62,7 +62,7 @@ pub fn kid_at(s: &[u8], at: usize, end: usize) -> Kid
 }
 
 // Past a kid, if there is one.
-#[derive(Drop)]
+#[derive(Clone, Copy)]
 enum Past {
     End,
     Next(usize),

@@ -8,7 +8,7 @@ ghost use Rattle.tree.specs.Places.{counted_of, listed_of, Fills, Opens};
 use crate::slots::Slot;
 
 // The counted places that are still to fill.
-#[derive(Drop)]
+#[derive(Clone, Copy)]
 pub enum Counted {
     Nothing,
     One(Slot),
@@ -17,14 +17,14 @@ pub enum Counted {
 }
 
 // What a list after them takes.
-#[derive(Drop)]
+#[derive(Clone, Copy)]
 pub enum Listed {
     Nothing,
     Each(Slot),
 }
 
 // The places of a node's kids.
-#[derive(Drop)]
+#[derive(Clone, Copy)]
 pub struct Places {
     pub counted: Counted,
     pub listed: Listed,
@@ -77,7 +77,7 @@ pub fn places_of(kind: u32) -> Places
 }
 
 // Where the next kid goes: into the first counted place, which leaves the others; else into the list.
-#[derive(Drop)]
+#[derive(Clone, Copy)]
 pub enum Place {
     First(Slot, Counted),
     Item(Slot),

@@ -4,7 +4,7 @@ ghost use Rattle.spec.specs.Kinds as Kinds;
 ghost use Rattle.tree.specs.Slots.{slot_of, slot_number, string_taken};
 
 // What a place is for.
-#[derive(Drop)]
+#[derive(Clone, Copy)]
 pub enum Slot {
     Expression,
     Path,

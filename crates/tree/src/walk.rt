@@ -14,21 +14,21 @@ use crate::slots::{Slot, takes};
 use sheet::Position;
 
 // The highest node met, and the place of the node after it.
-#[derive(Drop)]
+#[derive(Clone, Copy)]
 pub struct Front {
     pub highest: u32,
     pub next: Position,
 }
 
 // How far a walk has come; or the number of the refusal that stopped it, and the parent node.
-#[derive(Drop)]
+#[derive(Clone, Copy)]
 pub enum Walked {
     Met(Front),
     Stopped(u32, u32),
 }
 
 // What is left of a node's kids, and of its places.
-#[derive(Drop)]
+#[derive(Clone, Copy)]
 pub struct Todo {
     pub counted: Counted,
     pub listed: Listed,
@@ -38,7 +38,7 @@ pub struct Todo {
 }
 
 // What a step leads to.
-#[derive(Drop)]
+#[derive(Clone, Copy)]
 pub enum Step {
     More(Todo),
     Done(Walked),
@@ -61,7 +61,7 @@ fn after_kid(walked: Walked, counted: Counted, listed: Listed, kid: usize, end: 
 }
 
 // The kid k of the node n, which goes into the slot: the place and the kind are judged before the depth.
-#[cycle(enter_walk_walk_kid_walk_kids)]
+#[cycle(walk)]
 fn enter(s: &[u8], nodes: u32, n: u32, left: u32, k: u32, slot: Slot, front: Front) -> Walked
     requires { (nodes ≡ length (nodes_in s.now)) × ((k < nodes) × Stands s.now (front.highest + 1) front.next.at) }
     ensures { Walks s.now (entered (nodes_in s.now) left n (slot_of slot) k front.highest) result }
@@ -83,7 +83,7 @@ fn enter(s: &[u8], nodes: u32, n: u32, left: u32, k: u32, slot: Slot, front: Fro
 }
 
 // The first of the kids that are left.
-#[cycle(enter_walk_walk_kid_walk_kids)]
+#[cycle(walk)]
 fn walk_kid(s: &[u8], nodes: u32, n: u32, left: u32, todo: Todo) -> Step
     requires { (nodes ≡ length (nodes_in s.now)) × TodoStands s.now todo }
     ensures { Stepping s.now left n todo result }
@@ -121,7 +121,7 @@ fn walk_kid(s: &[u8], nodes: u32, n: u32, left: u32, todo: Todo) -> Step
 }
 
 // All kids that are left.
-#[cycle(enter_walk_walk_kid_walk_kids)]
+#[cycle(walk)]
 fn walk_kids(s: &[u8], nodes: u32, n: u32, left: u32, todo: Todo) -> Walked
     requires { (nodes ≡ length (nodes_in s.now)) × TodoStands s.now todo }
     ensures { Walks s.now (kids_walk s.now left n todo) result }
@@ -140,7 +140,7 @@ fn walk_kids(s: &[u8], nodes: u32, n: u32, left: u32, todo: Todo) -> Walked
 }
 
 // The node n, whose lines were read, and all below it, with so many levels left.
-#[cycle(enter_walk_walk_kid_walk_kids)]
+#[cycle(walk)]
 pub fn walk(s: &[u8], nodes: u32, n: u32, left: u32, lines: Lines) -> Walked
     requires { (nodes ≡ length (nodes_in s.now)) × Read s.now n lines }
     ensures { Walks s.now (walk_to (nodes_in s.now) left n) result }

@@ -8,6 +8,8 @@
 // a line before the last, `moved=` (the bytes of the buffer for what it moves), and behind them its text and a line
 // end. The first line of the list says what wrote it. It and the titles are read through the Reader, since they are
 // lines of no form; a line with a number is judged as it is read.
+#![tactic(auto)]
+
 ghost use Rattle.std.specs.Prelude.{◌≤◌};
 
 use ask::{ask_name, ask_reference};
@@ -20,7 +22,7 @@ use reader::after_first_line;
 use sheet::{Fault, NumberRead, Position};
 
 // A number, and the place after its line.
-#[derive(Drop)]
+#[derive(Clone, Copy)]
 enum Number {
     Is(u32, usize),
     Missing,

@@ -4,6 +4,8 @@
 // for. A text is a run of bytes, given by its first place and its length. It may lie anywhere in a
 // slice, and two runs of one slice may overlap. Every contract is an equation on lists, and a
 // `requires` speaks of places and lengths alone.
+#![tactic(auto)]
+
 mod copying;
 mod equality;
 mod ordering;

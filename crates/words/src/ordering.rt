@@ -5,7 +5,7 @@ ghost use Rattle.words.specs.Runs.{run};
 ghost use Rattle.words.specs.Order.{order};
 
 // How the first of two texts stands to the second.
-#[derive(Drop)]
+#[derive(Clone, Copy)]
 pub enum Order {
     Less,
     Equal,

@@ -1,0 +1,12 @@
+-- `intake::bring::bring_nodes` meets its contract.
+use Rattle.intake.proofs.BringLaws.{count_bad, counted}
+use Rattle.intake.proofs.bring.bring_nodes.Goals as goal
+
+pub bring_counted-requires : goal.bring_counted-requires
+bring_counted-requires c = (c.requires, counted _ c.first-start.result c.first-start.ensures _ c.number.ensures _ _ c.in-Value.is)
+
+pub returns-in-Bad : goal.returns-in-Bad
+returns-in-Bad c = count_bad _ c.first-start.result c.first-start.ensures _ c.number.ensures _ _ c.in-Bad.is _
+
+pub returns-in-Value : goal.returns-in-Value
+returns-in-Value c = c.bring_counted.ensures

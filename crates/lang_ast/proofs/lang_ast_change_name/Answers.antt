@@ -1,0 +1,5 @@
+-- `lang_ast::lang_ast_change_name` meets its contract.
+use Rattle.lang_ast.proofs.lang_ast_change_name.Goals as goal
+
+pub returns : goal.returns
+returns c = (c.change_name.ensures.number, (c.change_name.ensures.buffer, (c.change_name.ensures.reply, c.change_name.ensures.leaves)))

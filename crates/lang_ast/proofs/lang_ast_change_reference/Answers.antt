@@ -1,0 +1,5 @@
+-- `lang_ast::lang_ast_change_reference` meets its contract.
+use Rattle.lang_ast.proofs.lang_ast_change_reference.Goals as goal
+
+pub returns : goal.returns
+returns c = (c.change_reference.ensures.number, (c.change_reference.ensures.buffer, (c.change_reference.ensures.reply, c.change_reference.ensures.leaves)))

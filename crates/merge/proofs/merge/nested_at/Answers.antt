@@ -1,0 +1,13 @@
+-- `merge::merge::nested_at` meets its contract.
+use Rattle.merge.proofs.KeySteps.{nested_read, nested_found, nested_missed}
+use Rattle.open_sets.specs.Entries.{maybe_set_of}
+use Rattle.open_sets.specs.Run.{maybe_entry_of}
+use Rattle.merge.proofs.merge.nested_at.Goals as goal
+
+pub returns-in-Entry : goal.returns-in-Entry
+unfolding maybe_entry_of
+returns-in-Entry c = nested_found _ _ _ _ (rw c.in-Entry.is at c.find.ensures) (nested_read _ _ _ _ c.nested_in.ensures c.entry_at.ensures)
+
+pub returns-in-Absent : goal.returns-in-Absent
+unfolding maybe_entry_of maybe_set_of
+returns-in-Absent c = nested_missed _ _ (rw c.in-Absent.is at c.find.ensures)

@@ -1,0 +1,22 @@
+-- `moving::by_reference::move_by_reference` meets its contract.
+use Rattle.moving.proofs.AllLaws.{reference_counted, reference_moves, reference_stays}
+use native.Mathlib.Omega.{arith}
+use Rattle.moving.proofs.by_reference.move_by_reference.Goals as goal
+
+pub moved_by_reference-requires : goal.moved_by_reference-requires
+moved_by_reference-requires c = (c.requires.0, c.requires.1.0)
+
+pub set_answer-requires : goal.set_answer-requires
+set_answer-requires c = c.requires.0
+
+pub put32-requires : goal.put32-requires
+put32-requires c = omega (arith, c.requires.1.1.room, reference_counted _ _ _ c.requires.1.0 _ c.moved_by_reference.ensures _ c.in-To.is)
+
+pub list_references-requires : goal.list_references-requires
+list_references-requires c = omega (arith, c.requires.0, c.set_answer.ensures.wrote.size)
+
+pub returns-in-To : goal.returns-in-To
+returns-in-To c = reference_moves _ _ _ c.requires.1.0 _ c.moved_by_reference.ensures _ c.in-To.is c.requires.1.1.named _ _ _ _ c.set_answer.ensures c.put32.ensures c.list_references.ensures
+
+pub returns-in-Stays : goal.returns-in-Stays
+returns-in-Stays c = reference_stays _ _ _ c.requires.1.0 _ c.moved_by_reference.ensures _ c.in-Stays.is

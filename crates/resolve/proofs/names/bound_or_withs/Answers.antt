@@ -1,0 +1,12 @@
+-- `resolve::names::bound_or_withs` meets its contract.
+use Rattle.resolve.proofs.NameLaws.{bound, withs_there, withs_lacking}
+use Rattle.resolve.proofs.names.bound_or_withs.Goals as goal
+
+pub returns-in-In : goal.returns-in-In
+returns-in-In c = bound _ c.in-In.is
+
+pub returns-then-has_with : goal.returns-then-has_with
+returns-then-has_with c = withs_there _ c.in-Nowhere.is c.has_with.ensures c.if-has_with.true
+
+pub returns-else-has_with : goal.returns-else-has_with
+returns-else-has_with c = withs_lacking _ c.in-Nowhere.is c.has_with.ensures c.if-has_with.false

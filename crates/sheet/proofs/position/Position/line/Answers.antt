@@ -1,0 +1,16 @@
+-- `sheet::position::Position::line` meets its contract.
+use Rattle.sheet.proofs.LineLaws.{line_other, key_inside, line_value, line_endless}
+use borrow.Author.Tests.{not-true, not-false}
+use Rattle.sheet.proofs.position.Position.line.Goals as goal
+
+pub returns-then-not-has_key : goal.returns-then-not-has_key
+returns-then-not-has_key c = line_other c.args.key.now c.args.s.now c.args.self.at c.has_key.result c.has_key.ensures (not-true _ c.if-not-has_key.true-raw)
+
+pub line_end-requires : goal.line_end-requires
+line_end-requires c = key_inside c.args.key.now c.args.s.now c.args.self.at c.has_key.result c.has_key.ensures (not-false _ c.if-not-has_key.false-raw) c.requires
+
+pub returns-in-At : goal.returns-in-At
+returns-in-At c = line_value c.args.key.now c.args.s.now c.args.self.at c.has_key.result c.has_key.ensures (not-false _ c.if-not-has_key.false-raw) c.line_end.result c.line_end.ensures.0 c.line_end.ensures.1 c.in-At.end c.in-At.is
+
+pub returns-in-Missing : goal.returns-in-Missing
+returns-in-Missing c = line_endless c.args.key.now c.args.s.now c.args.self.at c.has_key.result c.has_key.ensures (not-false _ c.if-not-has_key.false-raw) c.line_end.result c.line_end.ensures.0 c.in-Missing.is

@@ -1,0 +1,30 @@
+-- `soundness::uses::uses_fit` meets its contract.
+use Prim.Native.Nat.{◌-◌}
+use Rattle.soundness.proofs.SoundLaws.{all_none, all_more, all_fails, all_fewer}
+use Rattle.soundness.specs.Sound.{use_fits}
+use borrow.Author.Tests.{not-true, not-false}
+use mathlib.Core.Bool.{true}
+use mathlib.Core.Path.{sym, ◌∙◌}
+use native.Mathlib.Omega.{arith}
+use Rattle.soundness.proofs.uses.uses_fit.Goals as goal
+
+pub loop-e-init : goal.loop-e-init
+loop-e-init c = all_none _
+
+pub use_fits-requires : goal.use_fits-requires
+use_fits-requires c = (c.requires, c.loop-e-test.true)
+
+pub returns-then-not-use_fits : goal.returns-then-not-use_fits
+returns-then-not-use_fits c = sym (all_fails _ _ _ c.loop-e-test.true (sym c.use_fits.ensures ∙ not-true _ c.if-not-use_fits.true-raw))
+
+pub overflow_add-e : goal.overflow_add-e
+overflow_add-e c = omega arith
+
+pub loop-e-smaller : goal.loop-e-smaller
+loop-e-smaller c = omega arith
+
+pub loop-e-preserved : goal.loop-e-preserved
+loop-e-preserved c = all_more _ _ c.loop-e.invariant (sym c.use_fits.ensures ∙ not-false _ c.if-not-use_fits.false-raw)
+
+pub returns : goal.returns
+returns c = sym (all_fewer _ _ _ c.loop-e-test.false c.loop-e.invariant)

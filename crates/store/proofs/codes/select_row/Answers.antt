@@ -1,0 +1,15 @@
+-- `store::codes::select_row` meets its contract.
+use Rattle.layout.specs.Exprs as rows
+use Rattle.module.specs.Ids.{expr_of}
+use Rattle.rows.specs.Decoded.{expr_with}
+use Rattle.store.specs.Codes.{sort_for, select_sort, ranged}
+use mathlib.Core.Path.{refl}
+use Rattle.store.proofs.codes.select_row.Goals as goal
+
+pub returns-in-Absent : goal.returns-in-Absent
+unfolding rows.expr_of expr_with sort_for select_sort ranged expr_of
+returns-in-Absent c = rw c.in-Absent.is (record { pointed = refl; same = λ s is. refl; sort_is = refl; in_range = refl })
+
+pub returns-in-Expr : goal.returns-in-Expr
+unfolding rows.expr_of expr_with sort_for select_sort ranged expr_of
+returns-in-Expr c = rw c.in-Expr.is (record { pointed = refl; same = λ s is. refl; sort_is = refl; in_range = refl })

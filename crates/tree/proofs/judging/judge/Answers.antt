@@ -1,0 +1,9 @@
+-- `tree::judging::judge` meets its contract.
+use Rattle.tree.proofs.JudgeLaws.{lines_refused, lines_accepted}
+use Rattle.tree.proofs.judging.judge.Goals as goal
+
+pub judge_tree-requires : goal.judge_tree-requires
+judge_tree-requires c = lines_accepted _ _ c.read_sheet.ensures _ _ c.in-Accepted.is
+
+pub returns-in-Refused : goal.returns-in-Refused
+returns-in-Refused c = lines_refused _ _ c.read_sheet.ensures _ _ c.in-Refused.is
