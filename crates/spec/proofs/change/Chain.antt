@@ -5,7 +5,7 @@ use mathlib.Core.Bool.{true}
 use mathlib.Core.List.{List, [], ◌∷◌}
 use mathlib.Core.Option.{Option, none, some}
 use Rattle.words.specs.Equality.{equalb}
-use Rattle.spec.specs.Basics.{Text, NameId, ScopeId}
+use Rattle.spec.specs.Basics.{Text, NameId, ScopeId, if◌then◌else◌}
 use Rattle.spec.specs.Scopes.{ScopeKind, definitions, with_expr, Scope, is_in, holds}
 use Rattle.spec.specs.Answer.{scope_at, chain, last_with, defined_in, innermost, after_definitions, answer_in, answer_at}
 use Rattle.spec.proofs.general.ListLaws.{is_in_first, is_in_rest}
@@ -25,7 +25,7 @@ module _ (f g : NameId → Text) (t : Text) where
       → last_with f t found xs ≡ last_with g t found xs
   unfolding last_with
   last_with_same found [] h = refl
-  last_with_same found (x ∷ xs) h = rw (h x (is_in_first x xs)) (last_with_same _ xs (λ y p. h y (is_in_rest y x xs p)))
+  last_with_same found (x ∷ xs) h = rw (h x (is_in_first x xs)) (last_with_same (if equalb (g x) t then some x else found) xs (λ y p. h y (is_in_rest y x xs p)))
 
   defined_in_same : (k : ScopeKind) → ((x : NameId) → holds x k ≡ true → equalb (f x) t ≡ equalb (g x) t) → defined_in f t k ≡ defined_in g t k
   unfolding defined_in holds

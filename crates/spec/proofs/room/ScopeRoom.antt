@@ -95,13 +95,13 @@ module _ (X : List Made) (ω : ExprId → ℕ) (own : (e : ExprId) → ω e ≤ 
       there_weighs absent = weighs_give none (λ z. omega arith)
       there_weighs (here {k = k} {h = h} z) = weighs_then (lowers.weighs ss es fine owned _ k h z.sub) λ e. weighs_give (some e) (λ w. omega (arith, w.1, z.next, sub_le nodes z.sub, self_le (kind nodes k)))
 
-      items_weigh : {A : Type 0} {H : Type 0} {val : A → ℕ} (slot : Slot) (f : NodeId → Low A) → ((K : Type 0) (k a m : ℕ) → Here nodes b slot k a m → Weighs X ss es K val (m - a) (f k)) → {ks : List NodeId} {a h : ℕ} → Items nodes b slot ks a h → Weighs X ss es H (sum_by val) (h - a) (each f ks)
+      items_weigh : {A : Type 0} {val : A → ℕ} (slot : Slot) (f : NodeId → Low A) → ((K : Type 0) (k a m : ℕ) → Here nodes b slot k a m → Weighs X ss es K val (m - a) (f k)) → {H : Type 0} {ks : List NodeId} {a h : ℕ} → Items nodes b slot ks a h → Weighs X ss es H (sum_by val) (h - a) (each f ks)
       unfolding each
       items_weigh slot f w done = weighs_give [] (λ z. omega arith)
-      items_weigh slot f w (item {k = k} {a = a} {m = m} {h = h} z r) =
+      items_weigh {A = A} {val = val} slot f w {H = H} (item {k = k} {a = a} {m = m} {h = h} z r) =
           let i = items_le nodes r in
           let j = sub_le nodes z.sub in
-          weighs_then (w _ k a m z) λ x. weighs_then (items_weigh slot f w r) λ xs. weighs_give (x ∷ xs) (λ y. omega (arith, y.1, y.0.1, z.next))
+          weighs_then (w _ k a m z) λ x. weighs_then (items_weigh {A = A} {val = val} slot f w {H = H × (val x ≤ m - a)} r) λ xs. weighs_give (x ∷ xs) (λ y. omega (arith, y.1, y.0.1, z.next))
 
       part_weighs_lem : (H : Type 0) (k a m : ℕ) → Here nodes b part k a m → Weighs X ss es H part_weighs (m - a) (lower_part nodes lower merge k)
       unfolding lower_part kind_of kinds
