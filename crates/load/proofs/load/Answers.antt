@@ -4,13 +4,13 @@ use native.Mathlib.Omega.{arith}
 use Rattle.load.proofs.load.Goals as goal
 
 pub returns-then-reply-lt-REPLY_BYTES : goal.returns-then-reply-lt-REPLY_BYTES
-returns-then-reply-lt-REPLY_BYTES c = reply_too_short _ _ _ (omega (arith, c.if-reply-lt-REPLY_BYTES.true))
+returns-then-reply-lt-REPLY_BYTES c = let answer = reply_too_short _ _ _ (omega (arith, c.if-reply-lt-REPLY_BYTES.true)) in record { value = answer.0; reply_after = answer.1.0; leaves = answer.1.1 }
 
 pub returns-then-store-lt-STORE_BYTES : goal.returns-then-store-lt-STORE_BYTES
-returns-then-store-lt-STORE_BYTES c = store_too_short _ _ _ (omega (arith, c.if-store-lt-STORE_BYTES.true)) c.refuse.ensures
+returns-then-store-lt-STORE_BYTES c = let answer = store_too_short _ _ _ (omega (arith, c.if-store-lt-STORE_BYTES.true)) c.refuse.ensures in record { value = answer.0; reply_after = answer.1.0; leaves = answer.1.1 }
 
 pub returns-in-Refused : goal.returns-in-Refused
-returns-in-Refused c = sheet_refused _ _ _ (omega (arith, c.if-store-lt-STORE_BYTES.false)) (omega (arith, c.if-reply-lt-REPLY_BYTES.false)) _ c.judge.ensures _ _ c.in-Refused.is c.refuse-in-Refused.ensures
+returns-in-Refused c = let answer = sheet_refused _ _ _ (omega (arith, c.if-store-lt-STORE_BYTES.false)) (omega (arith, c.if-reply-lt-REPLY_BYTES.false)) _ c.judge.ensures _ _ c.in-Refused.is c.refuse-in-Refused.ensures in record { value = answer.0; reply_after = answer.1.0; leaves = answer.1.1 }
 
 pub returns-in-Accepted : goal.returns-in-Accepted
-returns-in-Accepted c = sheet_accepted _ _ _ (omega (arith, c.if-store-lt-STORE_BYTES.false)) (omega (arith, c.if-reply-lt-REPLY_BYTES.false)) _ c.judge.ensures _ _ c.in-Accepted.is c.fill.ensures c.accept.ensures
+returns-in-Accepted c = let answer = sheet_accepted _ _ _ (omega (arith, c.if-store-lt-STORE_BYTES.false)) (omega (arith, c.if-reply-lt-REPLY_BYTES.false)) _ c.judge.ensures _ _ c.in-Accepted.is c.fill.ensures c.accept.ensures in record { value = answer.0; reply_after = answer.1.0; leaves = answer.1.1 }

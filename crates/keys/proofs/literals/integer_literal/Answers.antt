@@ -7,4 +7,4 @@ pub returns-then-value-gt-LARGEST_INTEGER : goal.returns-then-value-gt-LARGEST_I
 returns-then-value-gt-LARGEST_INTEGER c = integer_over _ _ _ _ c.node_text.ensures _ c.number_in-value.ensures c.if-value-gt-LARGEST_INTEGER.true
 
 pub returns : goal.returns
-returns c = integer_there _ _ _ _ c.node_text.ensures _ c.number_in-value.ensures c.if-value-gt-LARGEST_INTEGER.false c.integer_of.result _ c.integer_of.ensures.0 c.integer_of.ensures.1 refl
+returns c = integer_there _ _ _ _ c.node_text.ensures _ c.number_in-value.ensures c.if-value-gt-LARGEST_INTEGER.false c.integer_of.result _ c.integer_of.ensures.result_value c.integer_of.ensures.not_negative refl

@@ -313,7 +313,7 @@ pub expr-returns-in-21 : goal.expr-returns-in-21
 expr-returns-in-21 t c = root_arm _ _ _ c.if-depth-eq0.false c.node_kind.ensures _ c.in-21.is c.kid-place-in-21.ensures c.opt-in-21.ensures
 
 pub expr-returns-in_default : goal.expr-returns-in_default
-expr-returns-in_default t c = missing_arm _ _ _ c.if-depth-eq0.false c.node_kind.ensures c.in_default.rest c.missing_node.ensures
+expr-returns-in_default t c = missing_arm _ _ _ c.if-depth-eq0.false c.node_kind.ensures c.in_default.in_default-own.rest c.missing_node.ensures
 
 -- ---- field
 

@@ -20,4 +20,4 @@ unfolding kind_of_number
 returns-in-3 c = kind_at _ 3 c.in-3.is
 
 pub returns-in_default : goal.returns-in_default
-returns-in_default c = kind_last _ c.in_default.rest.0.0.0.1 c.in_default.rest.0.0.1 c.in_default.rest.0.1 c.in_default.rest.1
+returns-in_default c = kind_last _ c.in_default.in_default-own.rest.0.0.0.1 c.in_default.in_default-own.rest.0.0.1 c.in_default.in_default-own.rest.0.1 c.in_default.in_default-own.rest.1

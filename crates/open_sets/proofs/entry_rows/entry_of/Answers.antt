@@ -14,4 +14,4 @@ returns-in-1 c = record { same = λ s. rw c.in-1.is }
 
 pub returns-in_default : goal.returns-in_default
 unfolding entry_with entry_of
-returns-in_default c = record { same = λ s. rw (ne_eqb _ 0 c.in_default.rest.0.1, ne_eqb _ 1 c.in_default.rest.1) }
+returns-in_default c = record { same = λ s. rw (ne_eqb _ 0 c.in_default.in_default-own.rest.0.1, ne_eqb _ 1 c.in_default.in_default-own.rest.1) }

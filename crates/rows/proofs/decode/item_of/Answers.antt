@@ -43,4 +43,4 @@ unfolding rows.item_of item_with binding_of
 returns-in-8 c = record { same = λ s. rw c.in-8.is }
 
 pub returns-in_default : goal.returns-in_default
-returns-in_default c = last_item_read _ _ _ refl refl c.in_default.rest
+returns-in_default c = last_item_read _ _ _ refl refl c.in_default.in_default-own.rest

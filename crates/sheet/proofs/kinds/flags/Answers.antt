@@ -13,4 +13,4 @@ pub returns-in-17 : goal.returns-in-17
 returns-in-17 c = flags_two _ c.in-17.is
 
 pub returns-in_default : goal.returns-in_default
-returns-in_default c = flags_other _ (λ e. c.in_default.rest.0.0.1 (inl e)) (λ e. c.in_default.rest.0.0.1 (inr (inl e))) (λ e. c.in_default.rest.0.0.1 (inr (inr (inl e)))) (λ e. c.in_default.rest.0.0.1 (inr (inr (inr e)))) c.in_default.rest.0.1 c.in_default.rest.1
+returns-in_default c = flags_other _ (λ e. c.in_default.in_default-own.rest.0.0.1 (inl e)) (λ e. c.in_default.in_default-own.rest.0.0.1 (inr (inl e))) (λ e. c.in_default.in_default-own.rest.0.0.1 (inr (inr (inl e)))) (λ e. c.in_default.in_default-own.rest.0.0.1 (inr (inr (inr e)))) c.in_default.in_default-own.rest.0.1 c.in_default.in_default-own.rest.1

@@ -16,4 +16,4 @@ pub returns-in-18 : goal.returns-in-18
 returns-in-18 c = text_named _ c.in-18.is
 
 pub returns-in_default : goal.returns-in_default
-returns-in_default c = text_other _ (λ e. c.in_default.rest.0.0.0.1 (inl e)) (λ e. c.in_default.rest.0.0.0.1 (inr e)) c.in_default.rest.0.0.1 c.in_default.rest.0.1 c.in_default.rest.1
+returns-in_default c = text_other _ (λ e. c.in_default.in_default-own.rest.0.0.0.1 (inl e)) (λ e. c.in_default.in_default-own.rest.0.0.0.1 (inr e)) c.in_default.in_default-own.rest.0.0.1 c.in_default.in_default-own.rest.0.1 c.in_default.in_default-own.rest.1

@@ -11,7 +11,7 @@ pub bounds-s-i : goal.bounds-s-i
 bounds-s-i c = omega arith
 
 pub returns-then-s-i-eq10 : goal.returns-then-s-i-eq10
-returns-then-s-i-eq10 c = (scan_found _ _ _ c.loop-i.invariant c.loop-i-test.true c.if-s-i-eq10.true, (c.loop-i.invariant.low, c.loop-i-test.true))
+returns-then-s-i-eq10 c = record { s_value = scan_found _ _ _ c.loop-i.invariant c.loop-i-test.true c.if-s-i-eq10.true; end_inside = (c.loop-i.invariant.low, c.loop-i-test.true) }
 
 pub overflow_add-i : goal.overflow_add-i
 overflow_add-i c = omega arith
@@ -23,4 +23,4 @@ pub loop-i-preserved : goal.loop-i-preserved
 loop-i-preserved c = scan_more _ _ _ c.loop-i.invariant c.loop-i-test.true c.if-s-i-eq10.false
 
 pub returns : goal.returns
-returns c = (scan_none _ _ _ c.loop-i.invariant c.loop-i-test.false, tt)
+returns c = record { s_value = scan_none _ _ _ c.loop-i.invariant c.loop-i-test.false; end_inside = tt }

@@ -43,4 +43,4 @@ pub returns-in-20 : goal.returns-in-20
 returns-in-20 c = unary _ _ _ _ _ _ c.in-20.is
 
 pub returns-in_default : goal.returns-in_default
-returns-in_default c = other_sorts _ _ _ _ _ _ c.in_default.rest
+returns-in_default c = other_sorts _ _ _ _ _ _ c.in_default.in_default-own.rest

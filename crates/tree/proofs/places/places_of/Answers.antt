@@ -76,4 +76,4 @@ returns-in-31 c = fills _ _ _ (31 ∷ []) _ c.only-in-31.ensures c.in-31.is ((re
 
 pub returns-in_default : goal.returns-in_default
 unfolding kind_of kinds
-returns-in_default c = rest_fills ((31 ∷ []) ∷ (29 ∷ []) ∷ (28 ∷ 30 ∷ []) ∷ (26 ∷ []) ∷ (25 ∷ []) ∷ (23 ∷ []) ∷ (16 ∷ []) ∷ (15 ∷ 17 ∷ 21 ∷ 24 ∷ 27 ∷ 33 ∷ []) ∷ (13 ∷ []) ∷ (12 ∷ []) ∷ (11 ∷ []) ∷ (7 ∷ []) ∷ (6 ∷ []) ∷ (5 ∷ []) ∷ (3 ∷ []) ∷ (2 ∷ []) ∷ (1 ∷ 4 ∷ 14 ∷ 19 ∷ []) ∷ []) tt _ _ c.only-in_default.ensures c.in_default.rest
+returns-in_default c = rest_fills ((31 ∷ []) ∷ (29 ∷ []) ∷ (28 ∷ 30 ∷ []) ∷ (26 ∷ []) ∷ (25 ∷ []) ∷ (23 ∷ []) ∷ (16 ∷ []) ∷ (15 ∷ 17 ∷ 21 ∷ 24 ∷ 27 ∷ 33 ∷ []) ∷ (13 ∷ []) ∷ (12 ∷ []) ∷ (11 ∷ []) ∷ (7 ∷ []) ∷ (6 ∷ []) ∷ (5 ∷ []) ∷ (3 ∷ []) ∷ (2 ∷ []) ∷ (1 ∷ 4 ∷ 14 ∷ 19 ∷ []) ∷ []) tt _ _ c.only-in_default.ensures c.in_default.in_default-own.rest

@@ -11,12 +11,12 @@ use native.Mathlib.Omega.{arith}
 use Rattle.sheet.proofs.position.Position.kids.Goals as goal
 
 pub judge_kids-verdict-requires : goal.judge_kids-verdict-requires
-judge_kids-verdict-requires c = let i = value_inside c.line.result c.in-Value.v _ c.in-Value.is c.line.ensures.1 in (i.0, omega arith)
+judge_kids-verdict-requires c = let i = value_inside c.line.result c.in-Value.v _ c.in-Value.is c.line.ensures.value_inside in (i.0, omega arith)
 
 pub returns-in-Malformed : goal.returns-in-Malformed
 unfolding line_of line field_of field
-returns-in-Malformed c = told_other (bytes "kids=") kid_list kids_of kids_agree fault.WrongKid (all_below c.args.nodes) c.args.s.now c.args.self.at c.line.result c.line.ensures.0 c.in-Malformed.is
+returns-in-Malformed c = let answer = told_other (bytes "kids=") kid_list kids_of kids_agree fault.WrongKid (all_below c.args.nodes) c.args.s.now c.args.self.at c.line.result c.line.ensures.result_value c.in-Malformed.is in record { result_value = answer.0; formed_in = answer.1 }
 
 pub returns-in-Value : goal.returns-in-Value
 unfolding line_of line field_of field
-returns-in-Value c = told_judged (bytes "kids=") kid_list kids_of kids_agree fault.WrongKid (all_below c.args.nodes) c.args.s.now c.args.self.at c.line.result c.line.ensures.0 c.in-Value.v c.in-Value.is c.line.ensures.1 c.judge_kids-verdict.result c.judge_kids-verdict.ensures c.told.result c.told.ensures
+returns-in-Value c = let answer = told_judged (bytes "kids=") kid_list kids_of kids_agree fault.WrongKid (all_below c.args.nodes) c.args.s.now c.args.self.at c.line.result c.line.ensures.result_value c.in-Value.v c.in-Value.is c.line.ensures.value_inside c.judge_kids-verdict.result c.judge_kids-verdict.ensures c.told.result c.told.ensures in record { result_value = answer.0; formed_in = answer.1 }
