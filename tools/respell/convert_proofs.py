@@ -63,9 +63,9 @@ class Lts:
             parent, o, new, renames = self.places[at]
             best = None
             for fo, path, arm, n in self.fields.get(at, []):
-                if fo == old and path and rest[: len(path)] == path and (best is None or len(path) > len(best[0])):
+                if fo == old and rest[: len(path)] == path and (best is None or len(path) > len(best[0])):
                     best = (path, arm, n)
-            if best:
+            if best and (best[0] or o != old or best[2].startswith(("in_default", "if-"))):
                 return f"c.{best[1]}.{best[2]}", rest[len(best[0]) :]
             if o == old:
                 if rest and rest[0] in renames:

@@ -17,14 +17,14 @@ pub finish-loop-e-init : goal.finish-loop-e-init
 finish-loop-e-init t c = going_none _ _ _ _
 
 pub finish-entry_of-requires : goal.finish-entry_of-requires
-finish-entry_of-requires t c = omega (arith, c.requires.1, c.loop-e.invariant.wrote.size)
+finish-entry_of-requires t c = omega (arith, c.requires, c.loop-e.invariant.wrote.size)
 
 pub finish-returns-in-End : goal.finish-returns-in-End
 unfolding NextInRun
 finish-returns-in-End t c = going_done c.loop-e.invariant (rw c.in-End.is at c.entry_of.ensures) c.first_of-j.ensures.0
 
 pub finish-finish_entry-requires : goal.finish-finish_entry-requires
-finish-finish_entry-requires t c = (omega (arith, c.requires.0), omega (arith, c.requires.1, c.loop-e.invariant.wrote.size))
+finish-finish_entry-requires t c = (omega (arith, c.decreases), omega (arith, c.requires, c.loop-e.invariant.wrote.size))
 
 pub finish-overflow_add-j : goal.finish-overflow_add-j
 unfolding NextInRun

@@ -1,5 +1,5 @@
 -- `resolve::withs::count_withs` meets its contract.
-use Rattle.resolve.proofs.CountLaws.{none_past, scope_low, counting_none, count_fits, counting_done, counting_on}
+use Rattle.resolve.proofs.CountLaws.{none_past, scope_low, counting_none, count_fits_lem, counting_done, counting_on}
 use Rattle.resolve.proofs.WithLaws.{outer_low}
 use native.Mathlib.Omega.{arith}
 use Rattle.resolve.proofs.withs.count_withs.Goals as goal
@@ -17,7 +17,7 @@ pub own_withs-n-requires : goal.own_withs-n-requires
 own_withs-n-requires c = c.requires
 
 pub overflow_add-n : goal.overflow_add-n
-overflow_add-n c = omega (arith, count_fits c.loop-p.invariant _ c.own_withs-n.ensures (scope_low _ _ _ c.scope_count.ensures c.if-scope_count-s.false))
+overflow_add-n c = omega (arith, count_fits_lem c.loop-p.invariant _ c.own_withs-n.ensures (scope_low _ _ _ c.scope_count.ensures c.if-scope_count-s.false))
 
 pub outer-requires : goal.outer-requires
 outer-requires c = c.requires

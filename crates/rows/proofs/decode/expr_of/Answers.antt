@@ -113,4 +113,4 @@ pub returns-in-0 : goal.returns-in-0
 returns-in-0 c = missing_read _ (omega arith)
 
 pub returns-in_default : goal.returns-in_default
-returns-in_default c = last_read _ c.in_default-1.rest c.if-sort-lt2.false
+returns-in_default c = last_read _ c.in_default.in_default-own.rest c.in_default.if-sort-lt2-own.false

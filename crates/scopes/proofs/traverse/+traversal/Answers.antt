@@ -15,7 +15,7 @@ use Rattle.scopes.proofs.traverse.+traversal.Goals as goal
 -- ---- child
 
 pub child-traverse_expr-requires : goal.child-traverse_expr-requires
-child-traverse_expr-requires t c = (omega (arith, c.requires.0, c.if-c-e.true), omega (arith, c.requires.1))
+child-traverse_expr-requires t c = (omega (arith, c.decreases, c.if-c-e.true), omega (arith, c.requires))
 
 pub child-returns-then-c-e : goal.child-returns-then-c-e
 child-returns-then-c-e t c = child_walked c.if-c-e.true c.traverse_expr.ensures
@@ -26,10 +26,10 @@ child-returns-else-c-e t c = child_left _ c.if-c-e.false
 -- ---- pair
 
 pub pair-child-requires : goal.pair-child-requires
-pair-child-requires t c = (omega (arith, c.requires.0), omega (arith, c.requires.1))
+pair-child-requires t c = (omega (arith, c.decreases), omega (arith, c.requires))
 
 pub pair-child-requires-2 : goal.pair-child-requires-2
-pair-child-requires-2 t c = (omega (arith, c.requires.0), omega (arith, c.requires.1))
+pair-child-requires-2 t c = (omega (arith, c.decreases), omega (arith, c.requires))
 
 pub pair-returns : goal.pair-returns
 pair-returns t c = follows_then c.child.ensures c.child-2.ensures
@@ -37,19 +37,19 @@ pair-returns t c = follows_then c.child.ensures c.child-2.ensures
 -- ---- traverse_bindings
 
 pub traverse_bindings-walk_items-requires : goal.traverse_bindings-walk_items-requires
-traverse_bindings-walk_items-requires t c = (omega (arith, c.requires.0), omega (arith, c.requires.1))
+traverse_bindings-walk_items-requires t c = (omega (arith, c.decreases), omega (arith, c.requires))
 
 pub traverse_bindings-open_for_bindings-inside-requires : goal.traverse_bindings-open_for_bindings-inside-requires
-traverse_bindings-open_for_bindings-inside-requires t c = omega (arith, c.requires.1)
+traverse_bindings-open_for_bindings-inside-requires t c = omega (arith, c.requires)
 
 pub traverse_bindings-walk_items-requires-2 : goal.traverse_bindings-walk_items-requires-2
-traverse_bindings-walk_items-requires-2 t c = (omega (arith, c.requires.0), omega (arith, c.requires.1))
+traverse_bindings-walk_items-requires-2 t c = (omega (arith, c.decreases), omega (arith, c.requires))
 
 pub traverse_bindings-walk_items-requires-3 : goal.traverse_bindings-walk_items-requires-3
-traverse_bindings-walk_items-requires-3 t c = (omega (arith, c.requires.0), omega (arith, c.requires.1))
+traverse_bindings-walk_items-requires-3 t c = (omega (arith, c.decreases), omega (arith, c.requires))
 
 pub traverse_bindings-walk_items-requires-4 : goal.traverse_bindings-walk_items-requires-4
-traverse_bindings-walk_items-requires-4 t c = (omega (arith, c.requires.0), omega (arith, c.requires.1))
+traverse_bindings-walk_items-requires-4 t c = (omega (arith, c.decreases), omega (arith, c.requires))
 
 pub traverse_bindings-returns : goal.traverse_bindings-returns
 traverse_bindings-returns t c = bindings_walked _ c.walk_items.ensures c.open_for_bindings-inside.ensures c.walk_items-2.ensures c.walk_items-3.ensures c.walk_items-4.ensures
@@ -57,64 +57,64 @@ traverse_bindings-returns t c = bindings_walked _ c.walk_items.ensures c.open_fo
 -- ---- traverse_expr
 
 pub traverse_expr-place_expr-requires : goal.traverse_expr-place_expr-requires
-traverse_expr-place_expr-requires t c = omega (arith, c.requires.1)
+traverse_expr-place_expr-requires t c = omega (arith, c.requires)
 
 pub traverse_expr-read_expr-requires : goal.traverse_expr-read_expr-requires
-traverse_expr-read_expr-requires t c = omega (arith, c.requires.1)
+traverse_expr-read_expr-requires t c = omega (arith, c.requires)
 
 pub traverse_expr-pair-requires : goal.traverse_expr-pair-requires
-traverse_expr-pair-requires t c = (omega (arith, c.requires.0), omega (arith, c.requires.1))
+traverse_expr-pair-requires t c = (omega (arith, c.decreases), omega (arith, c.requires))
 
 pub traverse_expr-child-requires : goal.traverse_expr-child-requires
-traverse_expr-child-requires t c = (omega (arith, c.requires.0), omega (arith, c.requires.1))
+traverse_expr-child-requires t c = (omega (arith, c.decreases), omega (arith, c.requires))
 
 pub traverse_expr-pair-requires-in-IfThenElse : goal.traverse_expr-pair-requires-in-IfThenElse
-traverse_expr-pair-requires-in-IfThenElse t c = (omega (arith, c.requires.0), omega (arith, c.requires.1))
+traverse_expr-pair-requires-in-IfThenElse t c = (omega (arith, c.decreases), omega (arith, c.requires))
 
 pub traverse_expr-traverse_lambda-requires : goal.traverse_expr-traverse_lambda-requires
-traverse_expr-traverse_lambda-requires t c = (omega (arith, c.requires.0), omega (arith, c.requires.1))
+traverse_expr-traverse_lambda-requires t c = (omega (arith, c.decreases), omega (arith, c.requires))
 
 pub traverse_expr-traverse_bindings-inside-requires : goal.traverse_expr-traverse_bindings-inside-requires
-traverse_expr-traverse_bindings-inside-requires t c = (omega (arith, c.requires.0), omega (arith, c.requires.1))
+traverse_expr-traverse_bindings-inside-requires t c = (omega (arith, c.decreases), omega (arith, c.requires))
 
 pub traverse_expr-child-requires-in-LetIn : goal.traverse_expr-child-requires-in-LetIn
-traverse_expr-child-requires-in-LetIn t c = (omega (arith, c.requires.0), omega (arith, c.requires.1))
+traverse_expr-child-requires-in-LetIn t c = (omega (arith, c.decreases), omega (arith, c.requires))
 
 pub traverse_expr-walk_items-requires : goal.traverse_expr-walk_items-requires
-traverse_expr-walk_items-requires t c = (omega (arith, c.requires.0), omega (arith, c.requires.1))
+traverse_expr-walk_items-requires t c = (omega (arith, c.decreases), omega (arith, c.requires))
 
 pub traverse_expr-pair-requires-in-BinOp : goal.traverse_expr-pair-requires-in-BinOp
-traverse_expr-pair-requires-in-BinOp t c = (omega (arith, c.requires.0), omega (arith, c.requires.1))
+traverse_expr-pair-requires-in-BinOp t c = (omega (arith, c.decreases), omega (arith, c.requires))
 
 pub traverse_expr-traverse_bindings-requires : goal.traverse_expr-traverse_bindings-requires
-traverse_expr-traverse_bindings-requires t c = (omega (arith, c.requires.0), omega (arith, c.requires.1))
+traverse_expr-traverse_bindings-requires t c = (omega (arith, c.decreases), omega (arith, c.requires))
 
 pub traverse_expr-child-requires-in-UnaryOp : goal.traverse_expr-child-requires-in-UnaryOp
-traverse_expr-child-requires-in-UnaryOp t c = (omega (arith, c.requires.0), omega (arith, c.requires.1))
+traverse_expr-child-requires-in-UnaryOp t c = (omega (arith, c.decreases), omega (arith, c.requires))
 
 pub traverse_expr-walk_path-requires : goal.traverse_expr-walk_path-requires
-traverse_expr-walk_path-requires t c = (omega (arith, c.requires.0), omega (arith, c.requires.1))
+traverse_expr-walk_path-requires t c = (omega (arith, c.decreases), omega (arith, c.requires))
 
 pub traverse_expr-walk_path-requires-in-HasAttr : goal.traverse_expr-walk_path-requires-in-HasAttr
-traverse_expr-walk_path-requires-in-HasAttr t c = (omega (arith, c.requires.0), omega (arith, c.requires.1))
+traverse_expr-walk_path-requires-in-HasAttr t c = (omega (arith, c.decreases), omega (arith, c.requires))
 
 pub traverse_expr-child-requires-in-With : goal.traverse_expr-child-requires-in-With
-traverse_expr-child-requires-in-With t c = (omega (arith, c.requires.0), omega (arith, c.requires.1))
+traverse_expr-child-requires-in-With t c = (omega (arith, c.decreases), omega (arith, c.requires))
 
 pub traverse_expr-open_with-inside-requires : goal.traverse_expr-open_with-inside-requires
-traverse_expr-open_with-inside-requires t c = omega (arith, c.requires.1)
+traverse_expr-open_with-inside-requires t c = omega (arith, c.requires)
 
 pub traverse_expr-child-requires-in-With-2 : goal.traverse_expr-child-requires-in-With-2
-traverse_expr-child-requires-in-With-2 t c = (omega (arith, c.requires.0), omega (arith, c.requires.1))
+traverse_expr-child-requires-in-With-2 t c = (omega (arith, c.decreases), omega (arith, c.requires))
 
 pub traverse_expr-pair-requires-in-Assert : goal.traverse_expr-pair-requires-in-Assert
-traverse_expr-pair-requires-in-Assert t c = (omega (arith, c.requires.0), omega (arith, c.requires.1))
+traverse_expr-pair-requires-in-Assert t c = (omega (arith, c.decreases), omega (arith, c.requires))
 
 pub traverse_expr-walk_items-requires-in-StringInterpolation : goal.traverse_expr-walk_items-requires-in-StringInterpolation
-traverse_expr-walk_items-requires-in-StringInterpolation t c = (omega (arith, c.requires.0), omega (arith, c.requires.1))
+traverse_expr-walk_items-requires-in-StringInterpolation t c = (omega (arith, c.decreases), omega (arith, c.requires))
 
 pub traverse_expr-walk_items-requires-in-PathInterpolation : goal.traverse_expr-walk_items-requires-in-PathInterpolation
-traverse_expr-walk_items-requires-in-PathInterpolation t c = (omega (arith, c.requires.0), omega (arith, c.requires.1))
+traverse_expr-walk_items-requires-in-PathInterpolation t c = (omega (arith, c.decreases), omega (arith, c.requires))
 
 pub traverse_expr-returns-in-Missing : goal.traverse_expr-returns-in-Missing
 traverse_expr-returns-in-Missing t c = missing_arm _ _ c.place_expr.ensures c.read_expr.ensures.0 c.in-Missing.is
@@ -170,13 +170,13 @@ traverse_expr-returns-in-PathInterpolation t c = path_arm _ _ c.place_expr.ensur
 -- ---- traverse_lambda
 
 pub traverse_lambda-open_for_lambda-inside-requires : goal.traverse_lambda-open_for_lambda-inside-requires
-traverse_lambda-open_for_lambda-inside-requires t c = omega (arith, c.requires.1)
+traverse_lambda-open_for_lambda-inside-requires t c = omega (arith, c.requires)
 
 pub traverse_lambda-walk_defaults-requires : goal.traverse_lambda-walk_defaults-requires
-traverse_lambda-walk_defaults-requires t c = (omega (arith, c.requires.0), omega (arith, c.requires.1))
+traverse_lambda-walk_defaults-requires t c = (omega (arith, c.decreases), omega (arith, c.requires))
 
 pub traverse_lambda-child-requires : goal.traverse_lambda-child-requires
-traverse_lambda-child-requires t c = (omega (arith, c.requires.0), omega (arith, c.requires.1))
+traverse_lambda-child-requires t c = (omega (arith, c.decreases), omega (arith, c.requires))
 
 pub traverse_lambda-returns : goal.traverse_lambda-returns
 traverse_lambda-returns t c = lambda_walked _ _ _ c.open_for_lambda-inside.ensures c.walk_defaults.ensures c.child.ensures
@@ -184,10 +184,10 @@ traverse_lambda-returns t c = lambda_walked _ _ _ c.open_for_lambda-inside.ensur
 -- ---- walk_defaults
 
 pub walk_defaults-walk_items-requires : goal.walk_defaults-walk_items-requires
-walk_defaults-walk_items-requires t c = (omega (arith, c.requires.0), omega (arith, c.requires.1))
+walk_defaults-walk_items-requires t c = (omega (arith, c.decreases), omega (arith, c.requires))
 
 pub walk_defaults-walk_items-requires-in-Ellipsis : goal.walk_defaults-walk_items-requires-in-Ellipsis
-walk_defaults-walk_items-requires-in-Ellipsis t c = (omega (arith, c.requires.0), omega (arith, c.requires.1))
+walk_defaults-walk_items-requires-in-Ellipsis t c = (omega (arith, c.decreases), omega (arith, c.requires))
 
 pub walk_defaults-returns-in-Absent : goal.walk_defaults-returns-in-Absent
 unfolding pattern_with pat_fields field_defaults
@@ -204,16 +204,16 @@ walk_defaults-returns-in-Ellipsis t c = rw c.in-Ellipsis.is c.walk_items-in-Elli
 -- ---- walk_items
 
 pub walk_items-item_count-count-requires : goal.walk_items-item_count-count-requires
-walk_items-item_count-count-requires t c = omega (arith, c.requires.1)
+walk_items-item_count-count-requires t c = omega (arith, c.requires)
 
 pub walk_items-loop-i-init : goal.walk_items-loop-i-init
 walk_items-loop-i-init t c = items_start _ _ _ _
 
 pub walk_items-pick_item-handed-requires : goal.walk_items-pick_item-handed-requires
-walk_items-pick_item-handed-requires t c = omega (arith, c.requires.1, c.loop-i.invariant.all.wrote.size)
+walk_items-pick_item-handed-requires t c = omega (arith, c.requires, c.loop-i.invariant.all.wrote.size)
 
 pub walk_items-walk_picks-requires : goal.walk_items-walk_picks-requires
-walk_items-walk_picks-requires t c = (omega (arith, c.requires.0), omega (arith, c.requires.1, c.loop-i.invariant.all.wrote.size))
+walk_items-walk_picks-requires t c = (omega (arith, c.decreases), omega (arith, c.requires, c.loop-i.invariant.all.wrote.size))
 
 pub walk_items-overflow_add-i : goal.walk_items-overflow_add-i
 walk_items-overflow_add-i t c = omega (arith, c.item_count-count.ensures.1, c.loop-i-test.true)
@@ -230,13 +230,13 @@ walk_items-returns t c = items_end _ c.item_count-count.ensures.0 c.loop-i.invar
 -- ---- walk_path
 
 pub walk_path-child-requires : goal.walk_path-child-requires
-walk_path-child-requires t c = (omega (arith, c.requires.0), omega (arith, c.requires.1))
+walk_path-child-requires t c = (omega (arith, c.decreases), omega (arith, c.requires))
 
 pub walk_path-walk_items-requires : goal.walk_path-walk_items-requires
-walk_path-walk_items-requires t c = (omega (arith, c.requires.0), omega (arith, c.requires.1))
+walk_path-walk_items-requires t c = (omega (arith, c.decreases), omega (arith, c.requires))
 
 pub walk_path-walk_picks-requires : goal.walk_path-walk_picks-requires
-walk_path-walk_picks-requires t c = (omega (arith, c.requires.0), omega (arith, c.requires.1))
+walk_path-walk_picks-requires t c = (omega (arith, c.decreases), omega (arith, c.requires))
 
 pub walk_path-returns : goal.walk_path-returns
 walk_path-returns t c = path_walked _ _ _ c.child.ensures c.walk_items.ensures c.maybe.ensures c.walk_picks.ensures
@@ -244,10 +244,10 @@ walk_path-returns t c = path_walked _ _ _ c.child.ensures c.walk_items.ensures c
 -- ---- walk_picks
 
 pub walk_picks-child-requires : goal.walk_picks-child-requires
-walk_picks-child-requires t c = (omega (arith, c.requires.0), omega (arith, c.requires.1))
+walk_picks-child-requires t c = (omega (arith, c.decreases), omega (arith, c.requires))
 
 pub walk_picks-pair-requires : goal.walk_picks-pair-requires
-walk_picks-pair-requires t c = (omega (arith, c.requires.0), omega (arith, c.requires.1))
+walk_picks-pair-requires t c = (omega (arith, c.decreases), omega (arith, c.requires))
 
 pub walk_picks-returns-in-Nothing : goal.walk_picks-returns-in-Nothing
 unfolding picks_of

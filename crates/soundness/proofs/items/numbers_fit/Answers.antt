@@ -19,7 +19,7 @@ pub returns-in-4 : goal.returns-in-4
 returns-in-4 c = default_item _ _ _ _ _ c.in-4.is
 
 pub returns-in-5-to-8 : goal.returns-in-5-to-8
-returns-in-5-to-8 c = name_and_child _ _ _ _ _ _ c.requires.taken.names c.in_default-1.rest c.if-tag-lt9.true
+returns-in-5-to-8 c = name_and_child _ _ _ _ _ _ c.requires.taken.names c.in-5-to-8.in_default-own.rest c.in-5-to-8.if-tag-lt9-own.true
 
 pub returns-in_default : goal.returns-in_default
-returns-in_default c = child_and_child _ _ _ _ _ c.if-tag-lt9.false
+returns-in_default c = child_and_child _ _ _ _ _ c.in_default.if-tag-lt9-own.false

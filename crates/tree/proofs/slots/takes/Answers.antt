@@ -42,23 +42,23 @@ returns-in-31 c = key_at (λ n. eqb n 9) 31 tt _ c.in-31.is c.args.slot _ c.numb
 
 pub returns-in-1-to-22 : goal.returns-in-1-to-22
 unfolding takes slot_of
-returns-in-1-to-22 c = range_at (λ n. eqb n 0) keys 1 23 tt (lit≤ tt) _ c.in_default-1.rest c.if-kind-lt1.false c.if-kind-lt23.true c.args.slot _ c.number-wanted.ensures
+returns-in-1-to-22 c = range_at (λ n. eqb n 0) keys 1 23 tt (lit≤ tt) _ c.in-1-to-22.in_default-own.rest c.in-1-to-22.if-kind-lt1-own.false c.in-1-to-22.if-kind-lt23-own.true c.args.slot _ c.number-wanted.ensures
 
 pub returns-in-25-to-26 : goal.returns-in-25-to-26
 unfolding takes slot_of
-returns-in-25-to-26 c = range_at (λ n. eqb n 3) keys 23 27 tt (lit≤ tt) _ c.in_default-1.rest c.if-kind-lt23.false c.if-kind-lt27.true c.args.slot _ c.number-wanted.ensures
+returns-in-25-to-26 c = range_at (λ n. eqb n 3) keys 23 27 tt (lit≤ tt) _ c.in-25-to-26.in_default-own.rest c.in-25-to-26.if-kind-lt23-own.false c.in-25-to-26.if-kind-lt27-own.true c.args.slot _ c.number-wanted.ensures
 
 pub returns-in-28-to-29 : goal.returns-in-28-to-29
 unfolding takes slot_of
-returns-in-28-to-29 c = range_at (λ n. eqb n 5) keys 27 30 tt (lit≤ tt) _ c.in_default-1.rest c.if-kind-lt27.false c.if-kind-lt30.true c.args.slot _ c.number-wanted.ensures
+returns-in-28-to-29 c = range_at (λ n. eqb n 5) keys 27 30 tt (lit≤ tt) _ c.in-28-to-29.in_default-own.rest c.in-28-to-29.if-kind-lt27-own.false c.in-28-to-29.if-kind-lt30-own.true c.args.slot _ c.number-wanted.ensures
 
 pub returns-in-32-to-33 : goal.returns-in-32-to-33
 unfolding takes slot_of
-returns-in-32-to-33 c = range_at (λ n. eqb n 4) keys 30 34 tt (lit≤ tt) _ c.in_default-1.rest c.if-kind-lt30.false c.if-kind-lt34.true c.args.slot _ c.number-wanted.ensures
+returns-in-32-to-33 c = range_at (λ n. eqb n 4) keys 30 34 tt (lit≤ tt) _ c.in-32-to-33.in_default-own.rest c.in-32-to-33.if-kind-lt30-own.false c.in-32-to-33.if-kind-lt34-own.true c.args.slot _ c.number-wanted.ensures
 
 pub returns-in_default : goal.returns-in_default
 unfolding takes slot_of
 returns-in_default c = key_at (λ n. false) 0 tt c.args.kind (omega arith) c.args.slot _ c.number-wanted.ensures
 
 pub returns-in_default-2 : goal.returns-in_default-2
-returns-in_default-2 c = beyond _ _ c.if-kind-lt34.false
+returns-in_default-2 c = beyond _ _ c.in_default.if-kind-lt34-own.false
