@@ -158,7 +158,7 @@ refers s t x i e first l hx ef h he et =
     record {
       relisted = listing_one s t at e (omega arith) (omega arith) et;
       same = λ d. (lists_same s t x first firsts refs d (omega arith), listed_same s t x first firsts refs d (omega arith));
-      waits = λ a b. rw (z, ft, ← ef, one, rows_same (λ k. word t (references_at + 4 * (first + k))) (λ k. word s (references_at + 4 * (first + k))) i (λ k q. other (references_at + 4 * (first + k)) (inl (omega arith))));
+      waits = λ a b. rw (z, ft, ← ef, one) (ap (λ (ys : List ℕ). ys ++ (e ∷ [])) (rows_same (λ k. word t (references_at + 4 * (first_reference t x + k))) (λ k. word s (references_at + 4 * (first + k))) i (λ k q. rw ft (other (references_at + 4 * (first + k)) (inl (omega arith))))));
     }
 
 -- ---- ending

@@ -411,7 +411,7 @@ module _ (s : List ℕ) (n first i x : ℕ) (l : Long s) (en : n ≡ cap (word s
     put_waits =
         let z : i + 1 ≡ suc i = omega arith in
         let one : word t (entered_at + 4 * (first + i)) ≡ x = rw et (word_set_word_same s (entered_at + 4 * (first + i)) x (omega arith) hx) in
-        rw (z, put_used, used_first, one, rows_same (λ k. word t (entered_at + 4 * (first + k))) (λ k. word s (entered_at + 4 * (first + k))) i (λ k q. put_other (entered_at + 4 * (first + k)) (inl (omega arith))))
+        rw (z, put_used, used_first, one) (ap (λ (ys : List ℕ). ys ++ (x ∷ [])) (rows_same (λ k. word t (entered_at + 4 * (used_names t + k))) (λ k. word s (entered_at + 4 * (first + k))) i (λ k q. rw (put_used, used_first) (put_other (entered_at + 4 * (first + k)) (inl (omega arith))))))
 
     ends : Neat s → (k : ℕ) → k < cap (word s scope_count) scope_limit → cap (first_entered s (k + 1)) name_limit ≤ first
     ends neat k q =

@@ -10,4 +10,4 @@ pub returns-in-Bad : goal.returns-in-Bad
 returns-in-Bad c = node_bad _ _ _ _ _ c.requires.1.1.1 c.requires.1.1.0 _ (c.node.ensures.result_value, c.node.ensures.formed_node) _ _ c.in-Bad.is
 
 pub returns-in-Value : goal.returns-in-Value
-returns-in-Value c = node_brought _ _ _ _ _ c.requires.1.1.1 c.requires.1.1.0 _ (c.node.ensures.result_value, c.node.ensures.formed_node) _ c.in-Value.is c.bring_row.new.1.1.1.1.0 c.bring_row.result c.bring_row.ensures
+returns-in-Value c = node_brought _ _ _ _ _ c.requires.1.1.1 c.requires.1.1.0 _ (c.node.ensures.result_value, c.node.ensures.formed_node) _ c.in-Value.is c.bring_row.new.store c.bring_row.result c.bring_row.ensures
