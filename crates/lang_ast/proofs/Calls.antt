@@ -7,7 +7,7 @@ use Prim.Native.Nat.{ℕ, suc, ◌≤◌}
 use native.Mathlib.Omega.{arith}
 use lib.ListN.{length, replicate}
 use contract.Lifetimes.{Lfts}
-use denote.Ref.{Bor}
+use denote.Ref.{Bor, MutBor}
 use denote.Triple.Clauses.{Ended, Lasts, at_exit}
 use borrow.Fn.Kinds.{ended_of}
 use Rattle.spec.specs.Sheet.{Node, Judged}
@@ -37,20 +37,23 @@ use Rattle.lang_ast.proofs.lang_ast_change_reference.Reads as change_reference_r
 use Rattle.lang_ast.proofs.lang_ast_change_name.Kinds as change_name_kinds
 use Rattle.lang_ast.proofs.lang_ast_change_name.Reads as change_name_reads
 
--- A slice is a reference: where it points, its ghost name, and its bytes `now`.
+-- A slice is a reference: where it points, and its bytes `now`; one that a call may write has a ghost name beside them.
 abbrev pub Bytes : Type 0
 Bytes = Bor (List ℕ)
+
+abbrev pub MutBytes : Type 0
+MutBytes = MutBor (List ℕ)
 
 -- The parameters of the calls in their order, as nested pairs that end in `tt`: the sheet, the store and the reply of a
 -- load; the store, a number, the buffer and the reply of an asking; a change has its text before the buffer.
 abbrev pub LoadArgs : Type 0
-LoadArgs = Bytes × (Bytes × (Bytes × Unit {0}))
+LoadArgs = Bytes × (MutBytes × (MutBytes × Unit {0}))
 
 abbrev pub Args : Type 0
-Args = Bytes × (ℕ × (Bytes × (Bytes × Unit {0})))
+Args = Bytes × (ℕ × (MutBytes × (MutBytes × Unit {0})))
 
 abbrev pub ChangeArgs : Type 0
-ChangeArgs = Bytes × (ℕ × (Bytes × (Bytes × (Bytes × Unit {0}))))
+ChangeArgs = MutBytes × (ℕ × (Bytes × (MutBytes × (MutBytes × Unit {0}))))
 
 -- What each signature says of its call's end: a `&` is as it was passed, a `&mut` has its last bytes.
 abbrev pub LoadEnd : Ended
@@ -310,6 +313,9 @@ same_outcomes sheet s s' u u' l l' t t' e =
 lent : List ℕ → Bytes
 lent l = record { ref_ptr = (0, 0); now = l }
 
+lent_mut : List ℕ → MutBytes
+lent_mut l = record { ref_ptr = (0, 0); ghost_name = 0; now = l }
+
 twenty : List ℕ
 twenty = replicate 20 7
 
@@ -317,7 +323,7 @@ short : List ℕ
 short = 21 ∷ replicate 19 0
 
 example : Trace [] []
-unfolding lent twenty short outcome_in kept_outcome outcome condition_of check returned reply_after reply_words buffer_after list_of set_all set_word splice bytes_of
+unfolding lent lent_mut twenty short outcome_in kept_outcome outcome condition_of check returned reply_after reply_words buffer_after list_of set_all set_word splice bytes_of
 example =
-    asked_reference ([], ([], ([], tt))) (lent [], (3, (lent (5 ∷ []), (lent twenty, tt)))) (tt, (tt, (5 ∷ [], (short, tt)))) 21 [] (refl, (refl, refl))
-    (asked_name ([], ([], ([], tt))) (lent [], (3, (lent [], (lent [], tt)))) (tt, (tt, ([], ([], tt)))) 21 [] (refl, (refl, refl)) (done []))
+    asked_reference ([], ([], ([], tt))) (lent [], (3, (lent_mut (5 ∷ []), (lent_mut twenty, tt)))) (tt, (tt, (5 ∷ [], (short, tt)))) 21 [] (refl, (refl, refl))
+    (asked_name ([], ([], ([], tt))) (lent [], (3, (lent_mut [], (lent_mut [], tt)))) (tt, (tt, ([], ([], tt)))) 21 [] (refl, (refl, refl)) (done []))

@@ -1,11 +1,12 @@
 -- Which References a new text of a name may move. Assumes nothing.
-use mathlib.Core.Path.{◌≡◌, sym, ap, ◌∙◌}
+use mathlib.Core.Path.{◌≡◌, refl, sym, ap, ◌∙◌}
 use mathlib.Core.Bool.{Bool, true, false, ◌||◌, not}
 use mathlib.Core.List.{List}
+use mathlib.Core.Option.{Option, some}
 use Prim.Native.Nat.{ℕ}
 use borrow.Author.Tests.{not-true, not-false}
 use Rattle.words.specs.Equality.{equalb}
-use Rattle.words.proofs.EqualityLaws.{equalb_sym}
+use Rattle.words.proofs.EqualityLaws.{equalb_refl, equalb_true, equalb_false, equalb_other}
 use Rattle.spec.specs.Basics.{Text, ExprId}
 use Rattle.spec.specs.Scopes.{expr_at, name_at}
 use Rattle.spec.specs.Answer.{reference_text, scope_of_expr}
@@ -18,27 +19,42 @@ use Rattle.module.specs.declared.ids.MaybeText.{MaybeText}
 use Rattle.module.specs.declared.ids.MaybeText.TheVariants as maybe_text_lem
 use Rattle.module.specs.declared.ids.MaybeScope.{MaybeScope}
 use Rattle.module.specs.Ids.{scope_of}
-use Rattle.moving.specs.Moving.{About, Bears}
+use Rattle.moving.specs.Moving.{About}
 use Rattle.moving.specs.declared.named.Named.{Named}
 
--- ---- which of two texts one is
-module _ (old new t : Text) (a : Bool) (first : a ≡ equalb old t) where
-  pub is_old : a ≡ true → true ≡ (equalb old t || equalb new t)
-  is_old z = ap (λ (b : Bool). b || equalb new t) (sym z ∙ first)
+-- which of two lists comes first does not matter
+turned : (xs ys : List ℕ) → equalb xs ys ≡ equalb ys xs
+turned xs ys = go (equalb xs ys) refl
+  where
+    go : (b : Bool) → equalb xs ys ≡ b → b ≡ equalb ys xs
+    go true p = rw (equalb_true xs ys p) (sym (equalb_refl ys))
+    go false p = sym (equalb_other ys xs (λ e. equalb_false xs ys p (sym e)))
 
-  pub is_new : (b : Bool) → a ≡ false → b ≡ equalb t new → b ≡ (equalb old t || equalb new t)
-  is_new b z second = second ∙ equalb_sym t new ∙ ap (λ (c : Bool). c || equalb new t) (sym z ∙ first)
+abbrev either : Text → Text → Option Text → Bool
+either old new o = bears old o || bears new o
 
--- ---- what is read of an expression
-pub bears_read : (s : List ℕ) (e : ExprId) (r : MaybeText) → maybe_text s r ≡ reference_text (expr_at (module_in s) e) → (t : ℕ) → r ≡ maybe_text_lem.Text (record { 0 = t }) → Bears e t s
-unfolding maybe_text
-bears_read s e r reads t q = record { is = sym reads ∙ ap (maybe_text s) q }
+module _ (s : List ℕ) (e : ExprId) (old new : Text) (r : MaybeText) (h : maybe_text s r ≡ reference_text (expr_at (module_in s) e)) where
+  pub bears_none : r ≡ maybe_text_lem.Absent → false ≡ either old new (reference_text (expr_at (module_in s) e))
+  unfolding bears maybe_text
+  bears_none q = ap (either old new) (sym (ap (maybe_text s) q) ∙ h)
 
-module _ (s : List ℕ) (x : Named) (about : About s x) (new : Text) (e : ExprId) (t : ℕ) (its : Bears e t s) (b : Bool)
-    (borne : b ≡ (equalb (text_in s x.text.0) (text_in s t) || equalb new (text_in s t))) where
-  told : b ≡ (bears (name_at (module_in s) x.name.0).text (reference_text (expr_at (module_in s) e)) || bears new (reference_text (expr_at (module_in s) e)))
-  unfolding bears
-  told = rw (its.is, ← about.text) borne
+  module _ (k : ℕ) (q : r ≡ maybe_text_lem.Text (record { 0 = k })) (a : Bool) (first : a ≡ equalb old (text_in s k)) where
+    borne : either old new (some (text_in s k)) ≡ either old new (reference_text (expr_at (module_in s) e))
+    unfolding maybe_text
+    borne = ap (either old new) (sym (ap (maybe_text s) q) ∙ h)
+
+    pub bears_old : a ≡ true → true ≡ either old new (reference_text (expr_at (module_in s) e))
+    unfolding bears
+    bears_old z = ap (λ (b : Bool). b || equalb new (text_in s k)) (sym z ∙ first) ∙ borne
+
+    pub bears_new : (b : Bool) → a ≡ false → b ≡ equalb (text_in s k) new → b ≡ either old new (reference_text (expr_at (module_in s) e))
+    unfolding bears
+    bears_new b z second = second ∙ turned (text_in s k) new ∙ ap (λ (c : Bool). c || equalb new (text_in s k)) (sym z ∙ first) ∙ borne
+
+module _ (s : List ℕ) (x : Named) (about : About s x) (new : Text) (e : ExprId) (b : Bool)
+    (borne : b ≡ either (text_in s x.text.0) new (reference_text (expr_at (module_in s) e))) where
+  told : b ≡ either (name_at (module_in s) x.name.0).text new (reference_text (expr_at (module_in s) e))
+  told = rw (← about.text) borne
 
   -- it bears neither text
   pub unborne : not b ≡ true → false ≡ may_move (module_in s) (scopes_in s) (at_name x.name.0) new e

@@ -18,6 +18,7 @@ use Rattle.spec.specs.Answer.{text_of_name, answer_at, scope_of_expr, reference_
 use Rattle.spec.specs.Calls.{Place, at_name, at_reference, set_name, set_reference}
 use Rattle.spec.specs.Moved.{same_answer, cons_if, bears, may_move}
 use Rattle.spec.specs.Kept.{Kept, kept_answer, resolved_again}
+use Rattle.spec.proofs.general.BoolLaws.{differ}
 use Rattle.spec.proofs.change.MovedLaws.{answer_same, not_same}
 use Rattle.spec.proofs.change.Locality.{reference_set}
 use Rattle.layout.specs.Layout.{absent, name_limit, name_count}
@@ -38,7 +39,7 @@ use Rattle.nameres.specs.Resolution.{Scoped, with_answers, Answers}
 use Rattle.nameres.proofs.HeldLaws.{answer_held, word_fits}
 use Rattle.nameres.proofs.UseLaws.{answered}
 use Rattle.nameres.proofs.StepLaws.{module_kept, answers_none, put_keeps}
-use Rattle.moving.specs.Moving.{differs, OtherThan, Refers, Bears, Means, MovesTo, one_moved, MovesOne}
+use Rattle.moving.specs.Moving.{differs, OtherThan, Refers, Means, MovesTo, one_moved, MovesOne}
 use Rattle.moving.specs.declared.moved.Moved.{Moved}
 use Rattle.moving.specs.declared.moved.Moved.TheVariants.{To, Stays}
 
@@ -70,13 +71,6 @@ module _ (p : Place) (t : Text) (e : ExprId) (s : List ℕ) (a : Answer) (again 
           }
 
 -- ---- by a name
--- what bears no text stays
-pub no_text_lem : (s : List ℕ) (x : ℕ) (new : Text) (e : ExprId) (r : MaybeText) → maybe_text s r ≡ reference_text (expr_at (module_in s) e) → r ≡ maybe_text_lem.Absent → MovesTo (at_name x) new e s Stays
-unfolding may_move bears maybe_text
-no_text_lem s x new e r reads q =
-    let bare : reference_text (expr_at (module_in s) e) ≡ none = sym reads ∙ ap (maybe_text s) q in
-    staying (at_name x) new e s (unmovable (kept_in s) (at_name x) new e (rw (module_kept s, scopes_of_lem s, bare)))
-
 module _ (s : List ℕ) (x : ℕ) (new : Text) (e : ExprId) (b : Bool) (may : b ≡ may_move (module_in s) (scopes_in s) (at_name x) new e) where
   may_kept : may_move (kept_in s).lowered (kept_in s).scopes (at_name x) new e ≡ b
   may_kept = rw (module_kept s, scopes_of_lem s) (sym may)
@@ -84,20 +78,33 @@ module _ (s : List ℕ) (x : ℕ) (new : Text) (e : ExprId) (b : Bool) (may : b 
   pub not_movable : not b ≡ true → MovesTo (at_name x) new e s Stays
   not_movable h = staying (at_name x) new e s (unmovable (kept_in s) (at_name x) new e (may_kept ∙ not-true b h))
 
-  module _ (h : not b ≡ false) (t : ℕ) (its : Bears e t s) (a : Answer)
-      (says : answer_with a (withs_at (scopes_in s) e) ≡ answer_at (text_of_name (set_name x new (module_in s))) (scopes_in s).scopes (text_in s t) (scope_of_expr (scopes_in s) e)) where
-    answers_named : answer (set_name x new (module_in s)) (scopes_in s) e ≡ some (answer_with a (withs_at (scopes_in s) e))
-    unfolding answer answer_of expr_at made_at set_name
-    answers_named = rw (its.is, says)
+  module _ (h : not b ≡ false) (r : MaybeText) (reads : maybe_text s r ≡ reference_text (expr_at (module_in s) e)) where
+    -- what may move bears a text
+    pub no_text_lem : r ≡ maybe_text_lem.Absent → MovesTo (at_name x) new e s Stays
+    unfolding may_move bears maybe_text
+    no_text_lem q =
+        let n : reference_text (expr_at (module_in s) e) ≡ none = sym reads ∙ ap (maybe_text s) q in
+        let f : false ≡ true = sym (may ∙ rw n) ∙ not-false b h in
+        differ (sym f)
 
-    again_named : resolved_again (kept_in s) (at_name x) new e ≡ some (answer_with a (withs_at (scopes_in s) e))
-    unfolding resolved_again
-    again_named = rw (may_kept, not-false b h, module_kept s, scopes_of_lem s) answers_named
+    module _ (k : ℕ) (q : r ≡ maybe_text_lem.Text (record { 0 = k })) (a : Answer)
+        (says : answer_with a (withs_at (scopes_in s) e) ≡ answer_at (text_of_name (set_name x new (module_in s))) (scopes_in s).scopes (text_in s k) (scope_of_expr (scopes_in s) e)) where
+      bears_text : reference_text (expr_at (module_in s) e) ≡ some (text_in s k)
+      unfolding maybe_text
+      bears_text = sym reads ∙ ap (maybe_text s) q
 
-    pub by_name : (m : Moved) → OtherThan e a s m → MovesTo (at_name x) new e s m
-    by_name =
-        moves_to (at_name x) new e s a again_named
-        (record { text_of = text_of_name (set_name x new (module_in s)); sought = text_in s t; says = says; refers = record { text = text_in s t; is = its.is } })
+      answers_named : answer (set_name x new (module_in s)) (scopes_in s) e ≡ some (answer_with a (withs_at (scopes_in s) e))
+      unfolding answer answer_of expr_at made_at set_name
+      answers_named = rw (bears_text, says)
+
+      again_named : resolved_again (kept_in s) (at_name x) new e ≡ some (answer_with a (withs_at (scopes_in s) e))
+      unfolding resolved_again
+      again_named = rw (may_kept, not-false b h, module_kept s, scopes_of_lem s) answers_named
+
+      pub by_name : (m : Moved) → OtherThan e a s m → MovesTo (at_name x) new e s m
+      by_name =
+          moves_to (at_name x) new e s a again_named
+          (record { text_of = text_of_name (set_name x new (module_in s)); sought = text_in s k; says = says; refers = record { text = text_in s k; is = bears_text } })
 
 -- ---- by a Reference
 -- a Reference is one of the expressions

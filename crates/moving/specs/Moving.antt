@@ -50,10 +50,6 @@ pub record Refers (e : ExprId) (s : List ℕ) : Type 0 where
   pub text : Text
   pub is : reference_text (expr_at (module_in s) e) ≡ some text
 
--- the expression is a Reference, and its text is the one numbered t
-pub record Bears (e : ExprId) (t : ℕ) (s : List ℕ) : Type 0 where
-  pub is : reference_text (expr_at (module_in s) e) ≡ some (text_in s t)
-
 -- ---- one answer
 -- It is what some text means at the Reference e, with some texts of the names.
 pub record Means (e : ExprId) (a : Answer) (s : List ℕ) : Type 0 where

@@ -2,4 +2,4 @@
 use Rattle.lang_ast.proofs.lang_ast_change_reference.Goals as goal
 
 pub returns : goal.returns
-returns c = record { value = c.change_reference.ensures.number; moved_after = (c.change_reference.ensures.buffer, (c.change_reference.ensures.reply, c.change_reference.ensures.leaves)) }
+returns c = record { value = c.change_reference.ensures.number; moved_after = c.change_reference.ensures.buffer; reply_after = c.change_reference.ensures.reply; leaves = c.change_reference.ensures.leaves }
