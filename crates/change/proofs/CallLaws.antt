@@ -5,20 +5,17 @@ use mathlib.Core.Bool.{Bool, true, false}
 use mathlib.Core.List.{List, []}
 use mathlib.Core.Option.{none, some}
 use Prim.Native.Nat.{ℕ, ◌+◌, ◌*◌, ◌≤◌, ◌<◌}
-use native.Mathlib.Nat.{zero-add}
 use native.Mathlib.Omega.{arith}
 use lib.ListN.{length}
 use lib.Dec.{ltb}
 use borrow.Author.Tests.{le-ltb, lt-ltb, ltb-false, le-leb, lt-leb}
 use Rattle.words.specs.Equality.{equalb}
 use Rattle.words.proofs.EqualityLaws.{equalb_false}
-use Rattle.spec.specs.Basics.{Text, ExprId}
+use Rattle.spec.specs.Basics.{Text}
 use Rattle.spec.specs.Scopes.{expr_at, name_at}
 use Rattle.spec.specs.Answer.{reference_text}
 use Rattle.spec.specs.Calls.{fit, Call, change_reference, change_name, Outcome, refusal, accepted, reply_bytes, check, reply_of, buffer_of, Place, at_name, at_reference, text_at, or_empty, old_text, new_text, give_moved, in_room, give_text, if_reference, answer_call, is_accepted}
-use Rattle.spec.specs.Kept.{Kept, kept_answer, kept_references, resolved_again, moved_by, changed_to, kept_with, changed, kept_moved, kept_outcome, kept_after}
-use Rattle.spec.proofs.general.ListLaws.{get_d_tabulate}
-use Rattle.spec.proofs.change.MovedLaws.{nothing_differs, differs_alike}
+use Rattle.spec.specs.Kept.{kept_answer, kept_references, moved_by, changed_to, kept_with, kept_moved, kept_outcome, kept_after}
 use Rattle.layout.specs.Layout.{room_limit}
 use Rattle.layout.specs.Rows.{set_all}
 use Rattle.layout.specs.Texts.{text_in, maybe_text}
@@ -26,7 +23,6 @@ use Rattle.layout.specs.States.{exprs_of, names_of, module_in}
 use Rattle.layout.specs.Keeps.{kept_in}
 use Rattle.soundness.specs.Sound.{condition_of}
 use Rattle.soundness.proofs.ConditionLaws.{fit_sound}
-use Rattle.moving.specs.Moving.{Refers}
 use Rattle.put_text.specs.Changed.{Changeable, Changes}
 use Rattle.put_text.proofs.ConditionLaws.{changed_sound}
 use Rattle.module.specs.declared.ids.MaybeText.{MaybeText}
