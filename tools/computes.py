@@ -13,9 +13,8 @@ def definitions(crate):
         names = re.findall(r'(?m)^ *unfoldable pub (\S+) :', text)
         for block in re.findall(r'(?ms)^ *unfoldable mutual\n(.*?)(?=^\S|\Z)', text):
             names += re.findall(r'(?m)^ +pub (\S+) :', block)
-        path = f'Rattle·{crate}·specs.specs.{file[:-5]}' if crate == 'spec' else f'Rattle·{crate}.specs.{file[:-5]}'
         for name in names:
-            yield f'{path}.{name}'
+            yield f'Rattle.{crate}.specs.{file[:-5]}.{name}'
 
 modules = {}
 for name in [*definitions('words'), *definitions('spec')]:

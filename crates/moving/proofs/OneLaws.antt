@@ -13,7 +13,6 @@ use Rattle.words.specs.Words.{word, set_word}
 use Rattle.spec.specs.Basics.{Text, ExprId}
 use Rattle.spec.specs.Module.{Made}
 use Rattle.spec.specs.Scopes.{expr_at, made_at, name_at}
-use Rattle.spec.specs.Answer as spec
 use Rattle.spec.specs.Answer.{text_of_name, answer_at, scope_of_expr, reference_text, answer_of, answer}
 use Rattle.spec.specs.Calls.{Place, at_name, at_reference, set_name, set_reference}
 use Rattle.spec.specs.Moved.{same_answer, cons_if, bears, may_move}

@@ -13,7 +13,6 @@ use Rattle.layout.specs.Changes.{Wrote, Still}
 use Rattle.layout.specs.Texts.{text_in}
 use Rattle.layout.specs.States.{entry_of, entry_in}
 use Rattle.store.specs.Work.{Working, with_state}
-use Rattle.open_sets.specs.declared.entry.SetId.{SetId}
 use Rattle.open_sets.specs.declared.entry.MaybeSet.{MaybeSet}
 use Rattle.open_sets.specs.declared.entry.MaybeSet.TheVariants as maybe_set
 use Rattle.open_sets.specs.declared.entry.MaybeValue.{MaybeValue}

@@ -1,6 +1,6 @@
 -- docs/RULES.md, "Scopes and answers" ("Answers", "Kept answers and references"): what a name means where it is used,
 -- written from the Nix Reference Manual. This page is what demand 2 is proved against.
-use Rattle.std.specs.Prelude.{Bool, true, false, List, [], ◌∷◌, ◌++◌, ℕ, zero, suc, get_or, eqb}
+use Rattle.std.specs.Prelude.{Bool, false, List, [], ◌∷◌, ◌++◌, ℕ, zero, suc, get_or, eqb}
 use Rattle.std.proofs.Math.Option.{Option, none, some}
 use Rattle.words.specs.Equality.{equalb}
 use Rattle.spec.specs.Basics.{Text, ExprId, NameId, ScopeId, bytes, if◌then◌else◌, maybe}

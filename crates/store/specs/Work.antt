@@ -2,7 +2,7 @@
 use Rattle.std.specs.Prelude.{◌≡◌, Bool, true, ◌&&◌, List, [], ◌∷◌, ◌++◌, ℕ, ◌+◌, ◌*◌, ◌≤◌, ◌<◌, length, take, drop, ltb, leb}
 use Rattle.words.specs.Words.{word}
 use Rattle.spec.specs.Basics.{Text, ExprId, NameId, if◌then◌else◌}
-use Rattle.spec.specs.Module.{Pointer, Made, NameKind, Name, DuplicateKey}
+use Rattle.spec.specs.Module.{Pointer, Made, NameKind, Name}
 use Rattle.spec.specs.Steps.{Step}
 use Rattle.spec.specs.State.{State, state, empty, new_made, add_duplicate}
 use Rattle.spec.specs.Lower.{module_of}

@@ -1,7 +1,7 @@
 //! Finds or makes liblang_ast.a, and has it linked. A module of the build scripts of both crates that call the archive.
 //!
 //! It is looked for in this order: where LANG_AST_ARCHIVE says, a file or the folder that it is in; in target/staticlib
-//! of the repository; and if it is not there, but `rt` is, `rt staticlib lang_ast` makes it there.
+//! of the repository; and if it is not there, but `rt` is, tools/archive makes it there.
 
 use std::env;
 use std::fs::{create_dir_all, File};
@@ -44,7 +44,7 @@ fn found() -> Result<PathBuf, String> {
     if archive.is_file() {
         return Ok(archive);
     }
-    Err(format!("`rt staticlib lang_ast` wrote no {}: set {VARIABLE} to the archive or its folder", archive.display()))
+    Err(format!("tools/archive wrote no {}: set {VARIABLE} to the archive or its folder", archive.display()))
 }
 
 /// The archive that the variable names, by itself or by its folder.
@@ -66,10 +66,12 @@ fn locked(root: &Path) -> Option<File> {
 }
 
 fn made(root: &Path) -> Result<(), String> {
-    let made = Command::new("rt").args(["staticlib", "lang_ast"]).current_dir(root).output();
-    match made {
+    if Command::new("rt").arg("version").output().is_err() {
+        return Err(format!("there is no {FILE}, and no `rt` to make it: set {VARIABLE} to the archive or to its folder"));
+    }
+    match Command::new(root.join("tools/archive")).output() {
         Ok(output) if output.status.success() => Ok(()),
-        Ok(output) => Err(format!("`rt staticlib lang_ast` failed:\n{}", String::from_utf8_lossy(&output.stderr))),
-        Err(_) => Err(format!("there is no {FILE}, and no `rt` to make it: set {VARIABLE} to the archive or to its folder")),
+        Ok(output) => Err(format!("tools/archive failed:\n{}", String::from_utf8_lossy(&output.stderr))),
+        Err(error) => Err(format!("tools/archive did not run: {error}")),
     }
 }

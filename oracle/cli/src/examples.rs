@@ -133,8 +133,8 @@ const HEAD: &str = "\
 # Sheets to try
 
 The marked examples of docs/RULES.md, and lines A to E of the request: Nix texts, each as a syntax sheet with the places
-in the text. docs/SHEET.md has the format. After `rt check refsheet`, one is run by
-`target/bin/refsheet <examples/lambda.sheet`. The calls of a `.script` are run by
+in the text. docs/SHEET.md has the format. One is run by `(cd crates/refsheet && rt run) <examples/lambda.sheet`. The
+calls of a `.script` are run by
 `cargo run --offline --quiet --manifest-path oracle/Cargo.toml -- book SHEET SCRIPT`. All of this folder is written by
 `oracle examples examples`.
 
