@@ -1,4 +1,5 @@
 -- What each way through the checks of a change comes to. Assumes nothing.
+use Rattle.std.specs.Prelude.{if◌then◌else◌}
 use mathlib.Core.Path.{◌≡◌, refl, sym, ap, ◌∙◌}
 use mathlib.Core.Bool.{Bool, true, false}
 use mathlib.Core.List.{List, []}
@@ -10,7 +11,7 @@ use lib.ListN.{length}
 use lib.Dec.{ltb}
 use borrow.Author.Tests.{le-ltb, lt-ltb, ltb-false, le-leb, lt-leb}
 use Rattle.words.specs.Equality.{equalb}
-use Rattle.spec.specs.Basics.{Text, ExprId, if◌then◌else◌}
+use Rattle.spec.specs.Basics.{Text, ExprId}
 use Rattle.spec.specs.Scopes.{expr_at, name_at}
 use Rattle.spec.specs.Answer.{reference_text}
 use Rattle.spec.specs.Calls.{Call, change_reference, change_name, refusal, accepted, check, buffer_of, Place, at_name, at_reference, text_at, or_empty, old_text, new_text, give_moved, in_room, give_text, if_reference, answer_call}

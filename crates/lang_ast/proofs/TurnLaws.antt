@@ -1,4 +1,5 @@
 -- From what a call's contract says of the bytes to demand 3 at its turn. Assumes nothing.
+use Rattle.std.specs.Prelude.{if◌then◌else◌}
 use mathlib.Core.Path.{◌≡◌, refl, sym, ap, ◌∙◌}
 use mathlib.Core.Bool.{Bool, true, false, ◌||◌}
 use mathlib.Core.List.{List, [], ◌∷◌}
@@ -7,7 +8,6 @@ use Prim.Native.Nat.{ℕ, suc, ◌*◌}
 use native.Mathlib.Omega.{arith}
 use lib.ListN.{length}
 use lib.Dec.{ltb, leb}
-use Rattle.spec.specs.Basics.{if◌then◌else◌}
 use Rattle.spec.specs.Sheet.{Node, Judged}
 use Rattle.spec.specs.Tree.{judge}
 use Rattle.spec.specs.Lower.{lower_module}

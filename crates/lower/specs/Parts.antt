@@ -1,7 +1,7 @@
 -- The contracts of lowering: the definitions at a depth, and which items wait.
-use Rattle.std.specs.Prelude.{◌≡◌, List, [], ◌∷◌, ℕ, eqb}
+use Rattle.std.specs.Prelude.{◌≡◌, List, [], ◌∷◌, ℕ, eqb, if◌then◌else◌}
 use Rattle.std.proofs.Math.Option.{Option, some}
-use Rattle.spec.specs.Basics.{Text, NodeId, ExprId, NameId, if◌then◌else◌}
+use Rattle.spec.specs.Basics.{Text, NodeId, ExprId, NameId}
 use Rattle.spec.specs.Sheet.{Node}
 use Rattle.spec.specs.Module.{Pointer, InterpolPart, literal_part, interpol, Expr, apply, with_in, assert_in}
 use Rattle.spec.specs.Steps.{◌>>=◌}
