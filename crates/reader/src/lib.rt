@@ -2,9 +2,8 @@
 //
 // Document 01 (docs/RULES.md, "Shapes, sizes and forms"): "then a reader that holds the sheet and its position is
 // added". The sheet is lent to the reader once, so whoever reads on hands over the reader alone, and cannot mix up the
-// places of two sheets. A function over a struct that holds a slice is proved by a walk of its steps, by hand, so these
-// are few and thin: the work is done by `line_after`, which has a slice and a number, and others call
-// `after_first_line`, which has a slice.
+// places of two sheets. Its functions are few and thin: the work is done by `line_after`, which has a slice and a number,
+// and others call `after_first_line`, which has a slice.
 #![tactic(auto)]
 
 ghost use Rattle.std.specs.Prelude.{◌≡◌, ◌≤◌, length, take};
@@ -12,7 +11,7 @@ ghost use Rattle.reader.specs.Reading.{after_line};
 
 use sheet::{LineRead, Position};
 
-#[derive(Drop)]
+#[derive(Clone, Copy)]
 pub struct Reader<'a> {
     pub sheet: &'a [u8],
     // where the next line starts
@@ -58,7 +57,7 @@ pub fn next_line<'a>(r: Reader<'a>) -> Reader<'a>
     Reader { sheet: r.sheet, at }
 }
 
-// Where the line after the first one starts. The parameter is a plain slice, so a caller needs no walk. The place lies
+// Where the line after the first one starts. The parameter is a plain slice. The place lies
 // inside of the sheet: the second part of that follows from the first, and both are said, since they are what a
 // caller's `&sheet[..n]` asks.
 pub fn after_first_line(sheet: &[u8]) -> usize
