@@ -1,7 +1,6 @@
 -- The word that stands for an answer in a store: 0 none, 1 the Withs around it, 2 to 23 a built-in name, from 24 on a
 -- name.
-use Rattle.std.specs.Prelude.{ℕ, ◌+◌, ◌-◌, eqb, ltb}
-use Rattle.spec.specs.Basics.{if◌then◌else◌}
+use Rattle.std.specs.Prelude.{ℕ, ◌+◌, ◌-◌, eqb, ltb, if◌then◌else◌}
 use Rattle.answer.specs.declared.answer.Answer.{Answer}
 use Rattle.answer.specs.declared.answer.Answer.TheVariants.{Unresolved, Definition, Builtin, Withs}
 use Rattle.layout.specs.Layout.{absent, name_limit}

@@ -1,4 +1,5 @@
 -- What each way through the checks of a change comes to. Assumes nothing.
+use Rattle.std.specs.Prelude.{if◌then◌else◌}
 use mathlib.Core.Path.{◌≡◌, refl, sym, ap, ◌∙◌}
 use mathlib.Core.Bool.{Bool, true, false}
 use mathlib.Core.List.{List, []}
@@ -10,10 +11,10 @@ use lib.ListN.{length}
 use lib.Dec.{ltb}
 use borrow.Author.Tests.{le-ltb, lt-ltb, ltb-false, le-leb, lt-leb}
 use Rattle.words.specs.Equality.{equalb}
-use Rattle.spec.specs.Basics.{Text, ExprId, if◌then◌else◌}
+use Rattle.spec.specs.Basics.{Text, ExprId}
 use Rattle.spec.specs.Scopes.{expr_at, name_at}
 use Rattle.spec.specs.Answer.{reference_text}
-use Rattle.spec.specs.Calls.{Call, change_reference, change_name, Outcome, refusal, accepted, check, buffer_of, Place, at_name, at_reference, text_at, or_empty, old_text, new_text, give_moved, in_room, give_text, if_reference, answer_call}
+use Rattle.spec.specs.Calls.{Call, change_reference, change_name, refusal, accepted, check, buffer_of, Place, at_name, at_reference, text_at, or_empty, old_text, new_text, give_moved, in_room, give_text, if_reference, answer_call}
 use Rattle.spec.specs.Kept.{Kept, kept_answer, kept_references, resolved_again, moved_by, changed_to, kept_with, changed, kept_moved}
 use Rattle.spec.proofs.general.ListLaws.{get_d_tabulate}
 use Rattle.spec.proofs.change.MovedLaws.{nothing_differs, differs_alike}
@@ -27,7 +28,7 @@ use Rattle.module.specs.declared.ids.MaybeText.TheVariants as maybe_text_lem
 use Rattle.requests.specs.Requests.{own_outcome}
 use Rattle.nameres.proofs.StepLaws.{exprs_many}
 use Rattle.requests.proofs.StateLaws.{names_counted}
-use Rattle.change.specs.Judged.{from_text, from_moved, after_text, JudgesText, outcome_of, Settable, Judges}
+use Rattle.change.specs.Judged.{from_text, from_moved, after_text, JudgesText, outcome_of, Judges}
 use Rattle.change.specs.declared.new_text.NewText.{NewText}
 use Rattle.change.specs.declared.new_text.NewText.TheVariants.{Unfit, Same, Other}
 use Rattle.change.specs.declared.judging.Verdict.{Verdict}
@@ -40,7 +41,7 @@ module _ (k : Kept) (c : Call) (p : Place) (sets : kept_with k c ≡ changed_to 
   unfolding changed
   changed_is = rw other sets
 
-  moved_is : kept_moved k c ≡ moved_by k p (new_text c)
+  pub moved_is : kept_moved k c ≡ moved_by k p (new_text c)
   unfolding kept_moved moved_by kept_answer changed_to
   moved_is = differs_alike k.lowered _ _ _ _ (λ e l. refl) (λ e l. ap (λ (q : Kept). kept_answer q e) changed_is ∙ again e l)
     where
@@ -48,7 +49,7 @@ module _ (k : Kept) (c : Call) (p : Place) (sets : kept_with k c ≡ changed_to 
       again e l = get_d_tabulate (resolved_again k p (new_text c)) none 0 k.lowered.exprs e l ∙ ap (resolved_again k p (new_text c)) (zero-add e)
 
 -- an equal one moves nothing
-moved_none : (k : Kept) (c : Call) → equalb (old_text k.lowered c) (new_text c) ≡ true → kept_moved k c ≡ []
+pub moved_none : (k : Kept) (c : Call) → equalb (old_text k.lowered c) (new_text c) ≡ true → kept_moved k c ≡ []
 unfolding kept_moved changed
 moved_none k c h = rw (h, nothing_differs k.lowered (kept_answer k))
 
@@ -161,7 +162,7 @@ module _ (c : ℕ → Call) (p : Place) (t : Text) (bytes : ℕ) (s : List ℕ) 
             })
 
 -- ---- of a Reference
-text_read_lem : (s : List ℕ) (n : ℕ) (m : MaybeText) → maybe_text s m ≡ reference_text (expr_at (module_in s) n) → (h : ℕ) → m ≡ maybe_text_lem.Text (record { 0 = h })
+pub text_read_lem : (s : List ℕ) (n : ℕ) (m : MaybeText) → maybe_text s m ≡ reference_text (expr_at (module_in s) n) → (h : ℕ) → m ≡ maybe_text_lem.Text (record { 0 = h })
     → reference_text (expr_at (module_in s) n) ≡ some (text_in s h)
 unfolding maybe_text
 text_read_lem s n m says h q = sym says ∙ ap (maybe_text s) q

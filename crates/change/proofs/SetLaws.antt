@@ -12,7 +12,7 @@ use Rattle.words.proofs.EqualityLaws.{equalb_false}
 use Rattle.spec.specs.Basics.{Text}
 use Rattle.spec.specs.Scopes.{expr_at}
 use Rattle.spec.specs.Answer.{reference_text}
-use Rattle.spec.specs.Calls.{fit, Call, change_reference, Outcome, refusal, accepted, reply_bytes, check, reply_of, Place, at_reference, text_at, old_text, new_text, if_reference, answer_call, is_accepted}
+use Rattle.spec.specs.Calls.{fit, Call, change_reference, refusal, accepted, reply_bytes, check, reply_of, Place, at_reference, text_at, old_text, new_text, if_reference, answer_call, is_accepted}
 use Rattle.spec.specs.Kept.{moved_by, changed_to, kept_with, kept_outcome, kept_after}
 use Rattle.layout.specs.Rows.{set_all}
 use Rattle.layout.specs.Keeps.{kept_in}

@@ -1,7 +1,6 @@
 // What a change of a fit store comes to. Refusals are checked in the order of the definitions (Calls.antt), by reading
 // alone: what 34 needs is counted as if the text were set.
-ghost use Rattle.std.specs.Prelude.{◌≡◌, ◌*◌, ltb};
-ghost use Rattle.spec.specs.Basics.{if◌then◌else◌};
+ghost use Rattle.std.specs.Prelude.{◌≡◌, ◌*◌, ltb, if◌then◌else◌};
 ghost use Rattle.spec.specs.Calls.{at_name, at_reference, change_reference, change_name};
 ghost use Rattle.layout.specs.Layout.{Long};
 ghost use Rattle.change.specs.Judged.{Judges};

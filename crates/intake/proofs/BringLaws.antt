@@ -1,6 +1,7 @@
 -- The nodes of a sheet, brought in one after the other. Assumes nothing.
+use Rattle.std.specs.Prelude.{if◌then◌else◌}
 use mathlib.Core.Path.{◌≡◌, refl, sym, ap, ◌∙◌, subst}
-use mathlib.Core.Logic.{◌⊎◌, inl, inr, ⊎_elim}
+use mathlib.Core.Logic.{inl, inr, ⊎_elim}
 use mathlib.Core.Bool.{Bool, true, false, ◌&&◌}
 use mathlib.Core.List.{List, [], ◌∷◌, ◌++◌, append-nil, append_assoc}
 use mathlib.Core.Option.{Option, none, some}
@@ -11,7 +12,7 @@ use lib.Dec.{eqb, leb, ltb}
 use borrow.Author.Tests.{leb-true, eqb-true, ltb-true, lt-ltb}
 use Rattle.words.specs.Words.{word, set_word}
 use Rattle.words.proofs.WordLaws.{length_set_word, word_set_word_same, word_set_word_other}
-use Rattle.spec.specs.Basics.{NodeId, bytes, if◌then◌else◌}
+use Rattle.spec.specs.Basics.{NodeId, bytes}
 use Rattle.spec.specs.Sheet as spec
 use Rattle.spec.specs.Sheet.{Node, Got, got, bad, next, ◌>>=◌, give, wrong_count, all_below, node, nodes_from, node_list, accepted, refused, whole, read_sheet}
 use Rattle.sheet.specs.Keyed.{number_of}

@@ -1,7 +1,7 @@
 -- A word of a node's row.
-use Rattle.std.specs.Prelude.{List, ℕ, ◌+◌, ◌*◌, length, ltb}
+use Rattle.std.specs.Prelude.{List, ℕ, ◌+◌, ◌*◌, length, ltb, if◌then◌else◌}
 use Rattle.words.specs.Words.{word}
-use Rattle.spec.specs.Basics.{NodeId, if◌then◌else◌}
+use Rattle.spec.specs.Basics.{NodeId}
 use Rattle.layout.specs.Layout.{node_row, nodes_at}
 use Rattle.layout.specs.Nodes.{nodes_of}
 

@@ -6,14 +6,14 @@ use mathlib.Core.List.{List, [], ◌∷◌}
 use mathlib.Core.Option.{Option, none, some}
 use Prim.Native.Nat.{ℕ, ◌+◌, ◌-◌, ◌*◌, ◌≤◌, ◌<◌, ◌^◌}
 use native.Mathlib.Omega.{arith}
-use lib.ListN.{length, get_or, set}
+use lib.ListN.{length, set}
 use lib.Seq.{set_out}
 use lib.Dec.{eqb, ltb}
-use borrow.Author.Tests.{lt-ltb, le-ltb, eq-eqb, ne_eqb, ltb-true, ltb-false, eqb-true, eqb-false}
+use borrow.Author.Tests.{lt-ltb, le-ltb, eq-eqb, ne_eqb, ltb-true, ltb-false}
 use Rattle.words.specs.Order.{pick}
 use Rattle.words.specs.Words.{word, set_word}
-use Rattle.words.proofs.WordLaws.{word_lt, length_set_word, word_set_word_same, word_set_word_other}
-use Rattle.spec.specs.Scopes.{Scope, Scopes}
+use Rattle.words.proofs.WordLaws.{length_set_word, word_set_word_same, word_set_word_other}
+use Rattle.spec.specs.Scopes.{Scopes}
 use Rattle.spec.specs.Answer as spec
 use Rattle.spec.specs.Answer.{chain, withs_of, scope_of_expr}
 use Rattle.spec.specs.Kept.{Kept, kept_answer}
@@ -31,7 +31,7 @@ use Rattle.layout.specs.States.{module_in}
 use Rattle.layout.specs.Keeps.{first_entered, scope_of, scopes_in, withs_around, answer_of, answer_in, references_of, kept_in}
 use Rattle.kept.specs.Answers.{withs_in, withs_at, instead_of, answered_now, keep_answer, Answered}
 use Rattle.layout.proofs.RowLaws.{length_rows, get_d_rows, get_d_past, rows_put, cap_lim}
-use Rattle.layout.proofs.Frames.{Same, apart, clear_of, wrote_none}
+use Rattle.layout.proofs.Frames.{clear_of, wrote_none}
 use Rattle.layout.proofs.WriteLaws.{still_set_word}
 use Rattle.kept.proofs.ScopeReads.{of_expr_in}
 use Rattle.kept.proofs.ScopeLaws.{scopes_same, placed_by, scopes_are}

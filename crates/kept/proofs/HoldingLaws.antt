@@ -1,4 +1,5 @@
 -- The first scope that a name is entered in. Assumes nothing.
+use Rattle.std.specs.Prelude.{if◌then◌else◌}
 use mathlib.Core.Path.{◌≡◌, refl, sym, ap, ◌∙◌}
 use mathlib.Core.Bool.{Bool, true, false}
 use mathlib.Core.List.{List, [], ◌∷◌}
@@ -9,7 +10,6 @@ use lib.ListN.{length}
 use lib.Dec.{ltb}
 use borrow.Author.Tests.{eq-eqb, ne_eqb, ltb-true, ltb-false}
 use Rattle.words.specs.Words.{word}
-use Rattle.spec.specs.Basics.{if◌then◌else◌}
 use Rattle.spec.specs.Scopes.{ScopeKind, definitions, with_expr, is_in, holds, holder_from, holder}
 use Rattle.spec.specs.Answer.{scope_at}
 use Rattle.layout.specs.Layout.{name_limit, scope_limit, scope_row, scope_count, scopes_at, entered_at}

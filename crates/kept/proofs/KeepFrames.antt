@@ -1,23 +1,20 @@
 -- What a write leaves as it was of the whole module, of scopes, of kept answers and of kept references: if it lies
 -- outside what they are read from. Assumes nothing.
-use mathlib.Core.Path.{◌≡◌, refl, sym, ap, ◌∙◌}
-use mathlib.Core.Bool.{Bool, true, false, ◌&&◌, ◌||◌, and-eq-true_iff, or-true}
+use mathlib.Core.Path.{◌≡◌, refl}
+use mathlib.Core.Bool.{Bool, true, false, ◌||◌, and-eq-true_iff, or-true}
 use mathlib.Core.List.{List, [], ◌∷◌}
-use mathlib.Core.Option.{Option}
-use Prim.Native.Nat.{ℕ, ◌+◌, ◌*◌, ◌≤◌, ◌<◌}
+use Prim.Native.Nat.{ℕ, ◌+◌, ◌*◌, ◌≤◌}
 use native.Mathlib.Omega.{arith}
 use lib.Dec.{leb}
 use borrow.Author.Tests.{le-leb, leb-true}
 use Rattle.words.specs.Words.{word}
-use Rattle.spec.specs.Scopes.{Scope, Scopes}
-use Rattle.spec.specs.Answer.{Answer}
 use Rattle.spec.specs.Lower.{module_of}
 use Rattle.layout.specs.Layout.{expr_limit, name_limit, reference_limit, expr_row, use_row, expr_count, name_count, scope_count, exprs_at, expr_pointers_at, names_at, diagnostics_at, lost_at, uses_at, firsts_at, references_at, waiting_at}
-use Rattle.layout.specs.Rows.{cap, rows_to, rows_from}
+use Rattle.layout.specs.Rows.{cap, rows_to}
 use Rattle.layout.specs.Changes.{Range, Wrote, Still}
 use Rattle.layout.specs.Exprs.{sort_of}
 use Rattle.layout.specs.States.{state_of, module_in}
-use Rattle.layout.specs.Keeps.{first_entered, scope_of, scopes_in, answer_of, answer_in, first_reference, references_of}
+use Rattle.layout.specs.Keeps.{first_entered, scope_of, scopes_in, answer_in, first_reference, references_of}
 use Rattle.layout.proofs.RowLaws.{rows_same, between_same, cap_lim}
 use Rattle.layout.proofs.Frames.{Same, apart, same_on, number_kept, exprs_kept, names_kept, diagnostics_kept, lost_kept}
 use Rattle.kept.proofs.ScopeLaws.{scopes_same, placed_same, scopes_are}

@@ -3,22 +3,22 @@ use mathlib.Core.Path.{◌≡◌, refl, sym, ap, ◌∙◌}
 use mathlib.Core.Logic.{◌⊎◌, inl, inr}
 use mathlib.Core.Bool.{Bool, true, false}
 use mathlib.Core.List.{List, [], ◌∷◌, ◌++◌}
-use mathlib.Core.Option.{Option, none, some}
+use mathlib.Core.Option.{none, some}
 use Prim.Native.Nat.{ℕ, suc, ◌+◌, ◌-◌, ◌*◌, ◌≤◌, ◌<◌, ◌^◌}
 use native.Mathlib.Omega.{arith}
-use lib.ListN.{length, get_or, get_elem?}
+use lib.ListN.{length, get_elem?}
 use lib.Dec.{ltb}
 use borrow.Author.Tests.{ltb-true, ltb-false}
 use Rattle.words.specs.Words.{word, set_word}
 use Rattle.words.proofs.WordLaws.{length_set_word, word_set_word_same, word_set_word_other}
-use Rattle.spec.specs.Kept.{Kept, kept_references}
+use Rattle.spec.specs.Kept.{kept_references}
 use Rattle.layout.specs.Layout.{name_limit, reference_limit, name_count, firsts_at, references_at, waiting_at, Long}
 use Rattle.layout.specs.Rows.{cap, rows_to, rows_from}
 use Rattle.layout.specs.Changes.{Outside, Wrote, Still}
-use Rattle.layout.specs.Keeps.{first_reference, references_of, answer_in, kept_in}
+use Rattle.layout.specs.Keeps.{first_reference, references_of, kept_in}
 use Rattle.kept.specs.References.{listing, listed_by, lists_to, waiting_for, Listed, with_references, Relisted, Unlisted, Refers, Ended}
-use Rattle.layout.proofs.RowLaws.{rows_same, length_rows, get_d_rows, get_d_past, between_same, cap_le, cap_lim, cap_less}
-use Rattle.layout.proofs.Frames.{Same, apart, clear_of, number_kept, wrote_none}
+use Rattle.layout.proofs.RowLaws.{rows_same, length_rows, get_d_rows, get_d_past, cap_le, cap_lim, cap_less}
+use Rattle.layout.proofs.Frames.{Same, clear_of, number_kept, wrote_none}
 use Rattle.layout.proofs.WriteLaws.{still_set_word}
 use Rattle.kept.proofs.ScopeReads.{rows_at, at_past}
 use Rattle.kept.proofs.KeepFrames.{references_same, module_kept, scopes_kept, answers_kept}

@@ -16,14 +16,14 @@ use Rattle.spec.specs.Scopes.{ScopeKind, definitions, with_expr, Scope, Scopes, 
 use Rattle.spec.specs.Answer.{scope_at}
 use Rattle.layout.specs.Layout.{expr_limit, name_limit, scope_limit, use_row, scope_row, expr_count, scope_count, uses_at, scopes_at, entered_at, firsts_at, Long}
 use Rattle.layout.specs.Rows.{cap, rows_to, rows_from, raised, set_all}
-use Rattle.layout.specs.Changes.{Range, Outside, Wrote, Still}
+use Rattle.layout.specs.Changes.{Outside, Wrote, Still}
 use Rattle.layout.specs.States.{exprs_of}
 use Rattle.layout.specs.Exprs.{made_in}
 use Rattle.layout.specs.Keeps.{first_entered, entered_of, kind_of_scope, scope_in, scope_of, scopes_in}
 use Rattle.kept.specs.Walks.{names_entered, entered_by, kind_fits, try_open, try_place, try_root, root, walking, used_names, waiting_names, Neat, Walked, Unplaced, Emptied, Waits}
 use Rattle.layout.proofs.RowLaws.{rows_same, length_rows, rows_put, between_same, cap_le, cap_over, cap_lim, cap_less}
-use Rattle.layout.proofs.Frames.{Same, same_on, wrote_none, wrote_then}
-use Rattle.layout.proofs.WriteLaws.{Small, length_all, still_set_word, still_all, still_then, all_other, all_at}
+use Rattle.layout.proofs.Frames.{Same, wrote_none, wrote_then}
+use Rattle.layout.proofs.WriteLaws.{length_all, still_set_word, still_all, still_then, all_other, all_at}
 use Rattle.kept.proofs.ScopeReads.{scope_in_lem, length_scopes}
 use Rattle.kept.proofs.NeatLaws.{neat_count, neat_below, neat_all}
 

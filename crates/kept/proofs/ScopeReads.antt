@@ -1,7 +1,7 @@
 -- What is read of the scopes. Assumes nothing.
 use mathlib.Core.Path.{◌≡◌, refl, sym, ap, ◌∙◌}
 use mathlib.Core.Bool.{Bool, true, false}
-use mathlib.Core.List.{List, [], ◌∷◌, ◌++◌}
+use mathlib.Core.List.{List, [], ◌∷◌}
 use mathlib.Core.Option.{Option, none, some}
 use Prim.Native.Nat.{ℕ, zero, suc, ◌+◌, ◌-◌, ◌*◌, ◌≤◌, ◌<◌}
 use native.Mathlib.Omega.{arith}
@@ -9,13 +9,12 @@ use lib.ListN.{length, get_or, get_elem?}
 use lib.Dec.{ltb}
 use borrow.Author.Tests.{lt-ltb, le-ltb, ltb-true, ltb-false}
 use Rattle.words.specs.Words.{word}
-use Rattle.spec.specs.Scopes.{ScopeKind, definitions, with_expr, Scope, Scopes}
 use Rattle.spec.specs.Answer.{scope_at, scope_of_expr}
 use Rattle.layout.specs.Layout.{expr_limit, name_limit, scope_limit, use_row, scope_row, expr_count, scope_count, uses_at, scopes_at, entered_at}
 use Rattle.layout.specs.Rows.{cap, rows_to, rows_from, raised}
 use Rattle.layout.specs.Keeps.{first_entered, entered_of, kind_of_scope, scope_in, scope_of, scopes_in}
 use Rattle.kept.specs.Walks.{names_entered, with_of, scope_word, root}
-use Rattle.layout.proofs.RowLaws.{length_rows, get_d_rows, get_d_past, cap_le, cap_over, cap_lim}
+use Rattle.layout.proofs.RowLaws.{length_rows, get_d_rows, get_d_past, cap_lim}
 
 pub below_cap : (i n c : ℕ) → n ≡ c → i < n → i < c
 below_cap i n c e h = rw (← e) h

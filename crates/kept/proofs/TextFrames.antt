@@ -1,29 +1,28 @@
 -- Adding a text leaves all that a sound store keeps as it was: every number of a text there is one that fits. Assumes
 -- nothing.
-use mathlib.Core.Path.{◌≡◌, refl, sym, ap, ◌∙◌}
+use mathlib.Core.Path.{◌≡◌, refl}
 use mathlib.Core.Logic.{inr}
 use mathlib.Core.Bool.{Bool, true, false, ◌&&◌, and-eq-true_iff}
-use mathlib.Core.List.{List, [], ◌∷◌}
+use mathlib.Core.List.{List}
 use Prim.Native.Nat.{ℕ, ◌+◌, ◌*◌, ◌≤◌, ◌<◌}
 use native.Mathlib.Omega.{arith}
 use lib.Dec.{eqb, leb}
-use borrow.Author.Tests.{leb-true, leb-false, eqb-true}
-use Rattle.words.specs.Order.{pick}
+use borrow.Author.Tests.{eqb-true}
 use Rattle.words.specs.Words.{word}
 use Rattle.spec.specs.Basics.{Text}
 use Rattle.spec.specs.Lower.{module_of}
 use Rattle.layout.specs.Layout.{expr_limit, item_limit, name_limit, diagnostic_limit, expr_row, pointer_row, item_row, name_row, diagnostic_row, expr_count, name_count, diagnostic_count, exprs_at, expr_pointers_at, items_at, names_at, name_pointers_at, diagnostics_at, uses_at}
-use Rattle.layout.specs.Rows.{cap, rows_to, rows_from}
+use Rattle.layout.specs.Rows.{cap}
 use Rattle.layout.specs.Changes.{Wrote}
 use Rattle.layout.specs.Texts.{text_in}
-use Rattle.layout.specs.Exprs.{Item, item_of, item_at, item_in, pointer_at, expr_of, first_item, items_of, sort_of, made_in}
+use Rattle.layout.specs.Exprs.{Item, item_of, item_at, item_in, expr_of, first_item, items_of, sort_of, made_in}
 use Rattle.layout.specs.States.{name_in, diagnostic_in, exprs_of, names_of, diagnostics_of, state_of, module_in}
 use Rattle.layout.specs.Keeps.{kept_in}
 use Rattle.texts.specs.Fits.{text_fits}
 use Rattle.texts.specs.Adds.{texting, Texted}
 use Rattle.soundness.specs.Sound.{all_to, all_from, fields_fit, tag_fits, numbers_fit, item_fits, row_fits, ascends, counts_fit, entry_fits, exprs_fit, name_row_fits, names_fit, diagnostics_fit, scopes_fit, kept_fits, sound}
 use Rattle.layout.proofs.RowLaws.{rows_same, between_same, cap_lim, cap_less}
-use Rattle.layout.proofs.Frames.{Same, apart, same_on, number_kept, pointer_same, lost_kept}
+use Rattle.layout.proofs.Frames.{Same, same_on, number_kept, pointer_same, lost_kept}
 use Rattle.soundness.proofs.FrameLaws.{between_each}
 use Rattle.soundness.proofs.SoundLaws.{all_each}
 use Rattle.kept.proofs.KeepFrames.{scopes_kept, answers_kept, references_kept}

@@ -1,7 +1,7 @@
 -- Kept answers and kept references in a store: what is read of them, and what each writer did.
-use Rattle.std.specs.Prelude.{◌≡◌, List, [], ◌∷◌, ◌++◌, ℕ, ◌+◌, ◌*◌, ◌≤◌, ◌<◌, set, eqb}
+use Rattle.std.specs.Prelude.{◌≡◌, List, [], ◌∷◌, ℕ, ◌+◌, ◌*◌, ◌≤◌, ◌<◌, set, eqb, if◌then◌else◌}
 use Rattle.std.proofs.Math.Option.{Option, none, some}
-use Rattle.spec.specs.Basics.{ExprId, NameId, ScopeId, if◌then◌else◌}
+use Rattle.spec.specs.Basics.{ExprId, ScopeId}
 use Rattle.spec.specs.Scopes.{Scopes}
 use Rattle.spec.specs.Answer as spec
 use Rattle.spec.specs.Answer.{chain, withs_of, scope_of_expr}

@@ -1,10 +1,10 @@
 -- Walking in a store: what is read of a scope, the steps that open scopes and place expressions, and what each did to
 -- the bytes.
-use Rattle.std.specs.Prelude.{◌≡◌, Bool, ◌&&◌, List, [], ◌∷◌, ◌++◌, ℕ, ◌+◌, ◌*◌, ◌≤◌, ◌<◌, length, replicate, ltb, leb}
+use Rattle.std.specs.Prelude.{◌≡◌, Bool, ◌&&◌, List, [], ◌∷◌, ◌++◌, ℕ, ◌+◌, ◌*◌, ◌≤◌, ◌<◌, length, replicate, ltb, leb, if◌then◌else◌}
 use Rattle.std.proofs.Math.Option.{Option, none, some}
 use Rattle.words.specs.Words.{word}
-use Rattle.spec.specs.Basics.{ExprId, NameId, ScopeId, if◌then◌else◌}
-use Rattle.spec.specs.Scopes.{ScopeKind, definitions, with_expr, Scope, Scopes, Walk, place_expr, open_scope}
+use Rattle.spec.specs.Basics.{ExprId, NameId, ScopeId}
+use Rattle.spec.specs.Scopes.{ScopeKind, definitions, with_expr, Scope, Walk, place_expr, open_scope}
 use Rattle.layout.specs.Layout.{expr_limit, name_limit, scope_limit, use_row, scope_row, scope_count, uses_at, scopes_at, entered_at, firsts_at}
 use Rattle.layout.specs.Rows.{cap, rows_to}
 use Rattle.layout.specs.Changes.{Range, Wrote, Still}

@@ -1,4 +1,5 @@
 -- The literal of a Float or an Integer by what was read of its text; and that lowering allocates it. Assumes nothing.
+use Rattle.std.specs.Prelude.{if◌then◌else◌}
 use mathlib.Core.Path.{◌≡◌, refl, ap, ◌∙◌}
 use mathlib.Core.Bool.{Bool, true, false}
 use mathlib.Core.List.{List}
@@ -11,7 +12,7 @@ use lib.Ieee.{Float}
 use mir.Syntax.{w64}
 use mir.Val.{to_z, of_z}
 use borrow.Author.Tests.{eq-eqb, ne_eqb, eqb-true, le-leb, lt-leb}
-use Rattle.spec.specs.Basics.{NodeId, ExprId, if◌then◌else◌}
+use Rattle.spec.specs.Basics.{NodeId, ExprId}
 use Rattle.spec.specs.Sheet.{Node, bits_from, value_from}
 use Rattle.spec.specs.Keys.{flag, text, pointer}
 use Rattle.spec.specs.Module as spec

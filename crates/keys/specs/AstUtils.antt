@@ -1,7 +1,7 @@
 -- Keys: what each is in the definitions; and the small questions to a node that the definitions ask where they stand.
-use Rattle.std.specs.Prelude.{◌≡◌, Bool, List, ℕ, eqb}
+use Rattle.std.specs.Prelude.{◌≡◌, Bool, List, ℕ, eqb, if◌then◌else◌}
 use Rattle.std.proofs.Math.Option.{Option, none, some}
-use Rattle.spec.specs.Basics.{Text, NodeId, ExprId, if◌then◌else◌}
+use Rattle.spec.specs.Basics.{Text, NodeId, ExprId}
 use Rattle.spec.specs.Sheet.{Node}
 use Rattle.spec.specs.Keys as spec
 use Rattle.spec.specs.Keys.{flag, text, items}

@@ -1,7 +1,7 @@
 -- The number that a text says, and the literal that a Float or an Integer is.
-use Rattle.std.specs.Prelude.{◌≡◌, List, [], ◌∷◌, ℕ, ◌+◌, ◌-◌, ◌*◌, min, eqb, leb}
+use Rattle.std.specs.Prelude.{◌≡◌, List, [], ◌∷◌, ℕ, ◌+◌, ◌-◌, ◌*◌, min, eqb, leb, if◌then◌else◌}
 use Rattle.std.proofs.Math.Option.{Option, none, some}
-use Rattle.spec.specs.Basics.{Text, NodeId, if◌then◌else◌}
+use Rattle.spec.specs.Basics.{Text, NodeId}
 use Rattle.spec.specs.Sheet.{Node, bits_from, value_from}
 use Rattle.spec.specs.Keys.{flag, text, pointer}
 use Rattle.spec.specs.Module as spec

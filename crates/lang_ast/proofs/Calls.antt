@@ -3,8 +3,7 @@
 -- Assumes nothing.
 use mathlib.Core.Path.{◌≡◌, refl, sym, ap, subst, ◌∙◌}
 use mathlib.Core.List.{List, [], ◌∷◌, map}
-use Prim.Native.Nat.{ℕ, suc, ◌≤◌}
-use native.Mathlib.Omega.{arith}
+use Prim.Native.Nat.{ℕ, suc}
 use lib.ListN.{length, replicate}
 use contract.Lifetimes.{Lfts}
 use denote.Ref.{Bor, MutBor}
@@ -23,7 +22,7 @@ use Rattle.layout.specs.Rows.{set_all}
 use Rattle.layout.specs.Keeps.{kept_in}
 use Rattle.soundness.specs.Sound.{condition_of}
 use Rattle.replies.specs.Replies.{returned, reply_after, reply_words, buffer_after, list_of}
-use Rattle.requests.specs.Requests.{outcome_in, Asked, Changed}
+use Rattle.requests.specs.Requests.{outcome_in}
 use Rattle.lang_ast.specs.Turns.{KeepsBook, Turn, Asking}
 use Rattle.lang_ast.proofs.TurnLaws.{Ready, Change, changing_turn, Ask, ask_reference_turn, ask_name_turn, Start, accepted_starts, refused_leaves}
 use Rattle.lang_ast.proofs.lang_ast_load.Kinds as load_kinds

@@ -1,21 +1,20 @@
 -- From what a call's contract says of the bytes to demand 3 at its turn. Assumes nothing.
-use mathlib.Core.Path.{◌≡◌, refl, sym, ap, subst, ◌∙◌}
-use mathlib.Core.Bool.{Bool, true, false, ◌||◌, ◌&&◌, not}
+use Rattle.std.specs.Prelude.{if◌then◌else◌}
+use mathlib.Core.Path.{◌≡◌, refl, sym, ap, ◌∙◌}
+use mathlib.Core.Bool.{Bool, true, false, ◌||◌}
 use mathlib.Core.List.{List, [], ◌∷◌}
 use mathlib.Core.Option.{Option, none, some}
 use Prim.Native.Nat.{ℕ, suc, ◌*◌}
 use native.Mathlib.Omega.{arith}
 use lib.ListN.{length}
 use lib.Dec.{ltb, leb}
-use Rattle.words.specs.Equality.{equalb}
-use Rattle.spec.specs.Basics.{ExprId, if◌then◌else◌}
 use Rattle.spec.specs.Sheet.{Node, Judged}
 use Rattle.spec.specs.Tree.{judge}
 use Rattle.spec.specs.Lower.{lower_module}
 use Rattle.spec.specs.Answer.{Answer}
-use Rattle.spec.specs.Calls.{Condition, Call, ask_reference, ask_name, Outcome, refusal, answered, listed, accepted, is_accepted, old_text, new_text, with_list, check, reply_of, reply_bytes, in_buffer, give_answer, answer_call, outcome, loading}
+use Rattle.spec.specs.Calls.{Condition, Call, ask_reference, ask_name, Outcome, answered, listed, is_accepted, with_list, check, reply_of, reply_bytes, in_buffer, give_answer, answer_call, outcome, loading}
 use Rattle.spec.specs.Kept.{Kept, kept_answer, kept_references, kept_moved, kept_outcome}
-use Rattle.spec.specs.Book.{Book, book_of, book_outcome, book_after, book_after_all}
+use Rattle.spec.specs.Book.{book_of, book_outcome, book_after, book_after_all}
 use Rattle.spec.specs.Demand as demand
 use Rattle.spec.proofs.change.Incremental.{as_book}
 use Rattle.spec.proofs.change.Demand3 as demand3

@@ -4,24 +4,21 @@ use mathlib.Core.Path.{◌≡◌, refl, ap, ◌∙◌}
 use mathlib.Core.Logic.{◌⊎◌, inl, inr, ⊎_elim}
 use mathlib.Core.Bool.{Bool, true, false, ◌&&◌, ◌||◌, and-eq-true_iff}
 use mathlib.Core.List.{List, [], ◌∷◌}
-use Prim.Native.Nat.{ℕ, zero, suc, ◌+◌, ◌-◌, ◌*◌, ◌≤◌, ◌<◌}
+use Prim.Native.Nat.{ℕ, ◌+◌, ◌-◌, ◌*◌, ◌≤◌}
 use native.Mathlib.Omega.{arith}
-use lib.ListN.{length, take, drop}
 use lib.Seq.{drop-drop}
 use lib.Dec.{leb}
 use borrow.Author.Tests.{leb-true, lt-leb}
 use Rattle.words.specs.Runs.{run}
 use Rattle.words.specs.Words.{number, word}
-use Rattle.spec.specs.Module.{Module}
-use Rattle.spec.specs.Lower.{module_of}
 use Rattle.module.specs.Ids.{pointer_of}
 use Rattle.module.specs.declared.pointer.Pointer as code_pointer
 use Rattle.layout.specs.Layout.{absent, expr_limit, item_limit, name_limit, diagnostic_limit, waiting_limit, set_limit, entry_limit, text_limit, expr_row, pointer_row, item_row, name_row, diagnostic_row, set_row, entry_row, expr_count, name_count, diagnostic_count, lost_count, texts_place, waiting_count, set_count, entry_count, exprs_at, expr_pointers_at, items_at, names_at, name_pointers_at, diagnostics_at, lost_at, uses_at, waiting_at, sets_at, entries_at, run_at, sheet_at, texts_at}
-use Rattle.layout.specs.Rows.{cap, rows_to, rows_from}
+use Rattle.layout.specs.Rows.{cap, rows_from}
 use Rattle.layout.specs.Changes.{Range, Outside, Wrote, Still}
 use Rattle.layout.specs.Texts.{texts_used, text_of, text_in}
 use Rattle.layout.specs.Exprs.{item_of, item_at, item_in, expr_of, pointer_at, first_item, items_of, sort_of, made_in}
-use Rattle.layout.specs.States.{name_in, diagnostic_in, set_in, entry_of, entry_in, exprs_of, names_of, diagnostics_of, lost_of, sets_of, entries_of, state_of, module_in, waiting_of, order_of}
+use Rattle.layout.specs.States.{name_in, diagnostic_in, set_in, entry_of, entry_in, exprs_of, names_of, diagnostics_of, lost_of, sets_of, entries_of, waiting_of, order_of}
 use Rattle.layout.proofs.RowLaws.{rows_same, between_same, cap_lim}
 
 -- ---- ranges

@@ -1,5 +1,5 @@
 -- What writing words and runs of bytes does to the words of a store. Assumes nothing.
-use mathlib.Core.Path.{◌≡◌, refl, sym, ap, ◌∙◌}
+use mathlib.Core.Path.{◌≡◌, refl, ap, ◌∙◌}
 use mathlib.Core.Logic.{◌⊎◌, inl, inr}
 use mathlib.Core.Bool.{Bool, true, false}
 use mathlib.Core.List.{List, [], ◌∷◌}
@@ -9,13 +9,12 @@ use lib.ListN.{length, get_or, drop, set}
 use lib.Seq.{sets, drop-set-lt}
 use lib.Dec.{ltb}
 use borrow.Author.Tests.{ltb-true, ltb-false}
-use Rattle.words.specs.Runs.{run, splice}
+use Rattle.words.specs.Runs.{splice}
 use Rattle.words.specs.Words.{word, set_word, bytes_of}
-use Rattle.words.proofs.RunLaws.{length_splice, length_run}
-use Rattle.words.proofs.WordLaws.{word_lt, length_bytes_of, length_set_word, word_set_word_same, word_set_word_other, word_splice_other, word_splice_within, word_run}
+use Rattle.words.proofs.WordLaws.{length_bytes_of, length_set_word, word_set_word_same, word_set_word_other, word_splice_other}
 use Rattle.layout.specs.Rows.{set_all}
 use Rattle.layout.specs.Layout.{texts_place, sheet_at}
-use Rattle.layout.specs.Changes.{Range, Outside, Wrote, Still}
+use Rattle.layout.specs.Changes.{Still}
 
 -- ---- bytes past a write
 drop_sets : (xs s : List ℕ) (k at : ℕ) → at + length xs ≤ k → drop k (sets s at xs) ≡ drop k s

@@ -1,8 +1,8 @@
 -- Expressions: a row says what it is, and its lists lie in the items from its own first one to the next row's.
-use Rattle.std.specs.Prelude.{Bool, true, false, List, [], ◌∷◌, ℕ, ◌+◌, ◌*◌, eqb, leb}
+use Rattle.std.specs.Prelude.{Bool, true, false, List, [], ◌∷◌, ℕ, ◌+◌, ◌*◌, eqb, leb, if◌then◌else◌}
 use Rattle.std.proofs.Math.Option.{Option, none, some}
 use Rattle.words.specs.Words.{word}
-use Rattle.spec.specs.Basics.{Text, ExprId, NameId, if◌then◌else◌}
+use Rattle.spec.specs.Basics.{Text, ExprId, NameId}
 use Rattle.spec.specs.Module.{Pointer, float, integer, string, path, uri, InterpolPart, literal_part, interpol, BindingValue, expr, inherit, inherit_from, Bindings, Pat, Expr, missing, apply, if_then_else, literal, lambda, let_in, list, bin_op, attr_set, unary_op, reference, select, has_attr, with_in, assert_in, string_interpolation, path_interpolation, Made}
 use Rattle.layout.specs.Layout.{item_limit, expr_row, pointer_row, item_row, exprs_at, expr_pointers_at, items_at}
 use Rattle.layout.specs.Rows.{cap, rows_from}

@@ -1,8 +1,8 @@
 -- What the bytes of a store say of scopes, kept answers and kept references.
-use Rattle.std.specs.Prelude.{List, [], ℕ, ◌+◌, ◌-◌, ◌*◌, eqb, ltb}
+use Rattle.std.specs.Prelude.{List, [], ℕ, ◌+◌, ◌-◌, ◌*◌, eqb, ltb, if◌then◌else◌}
 use Rattle.std.proofs.Math.Option.{Option, none, some}
 use Rattle.words.specs.Words.{word}
-use Rattle.spec.specs.Basics.{ExprId, NameId, ScopeId, if◌then◌else◌, maybe}
+use Rattle.spec.specs.Basics.{ExprId, NameId, ScopeId}
 use Rattle.spec.specs.Scopes.{ScopeKind, definitions, with_expr, Scope, Scopes}
 use Rattle.spec.specs.Answer.{Answer, unresolved, definition, builtin, withs, chain, withs_of}
 use Rattle.spec.specs.Kept.{Kept}

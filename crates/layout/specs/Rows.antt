@@ -1,8 +1,7 @@
 -- Tables of rows in a list of bytes.
-use Rattle.std.specs.Prelude.{List, [], ◌∷◌, ◌++◌, ℕ, zero, suc, ◌+◌, ◌-◌, ◌*◌, leb, eqb}
+use Rattle.std.specs.Prelude.{List, [], ◌∷◌, ◌++◌, ℕ, zero, suc, ◌+◌, ◌-◌, leb, eqb, if◌then◌else◌}
 use Rattle.std.proofs.Math.Option.{Option, none, some}
-use Rattle.words.specs.Words.{word, set_word}
-use Rattle.spec.specs.Basics.{if◌then◌else◌}
+use Rattle.words.specs.Words.{set_word}
 use Rattle.layout.specs.Layout.{absent}
 
 -- a count, which is at most its limit whatever stands there

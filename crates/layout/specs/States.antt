@@ -1,9 +1,9 @@
 -- What the bytes of a store say of a module, and of the work of lowering it. Counts are taken as at most their limits
 -- and rows read whatever they hold, so that every list of bytes says something.
-use Rattle.std.specs.Prelude.{List, [], ◌∷◌, ℕ, ◌+◌, ◌*◌, eqb}
+use Rattle.std.specs.Prelude.{List, ℕ, ◌+◌, ◌*◌, eqb, if◌then◌else◌}
 use Rattle.std.proofs.Math.Option.{Option, none, some}
 use Rattle.words.specs.Words.{word}
-use Rattle.spec.specs.Basics.{ExprId, NameId, if◌then◌else◌}
+use Rattle.spec.specs.Basics.{ExprId, NameId}
 use Rattle.spec.specs.Module.{Pointer, BindingValue, expr, inherit, inherit_from, Made, Name, DuplicateKey, Module}
 use Rattle.spec.specs.State.{MergingSet, MergingEntry, static, source, dynamic, State, state}
 use Rattle.spec.specs.Lower.{module_of}

@@ -1,9 +1,9 @@
 -- Texts: a text's number is the place in the region of the texts where its length stands, and its bytes follow.
-use Rattle.std.specs.Prelude.{Bool, List, [], ℕ, ◌+◌, leb}
+use Rattle.std.specs.Prelude.{Bool, List, [], ℕ, ◌+◌, leb, if◌then◌else◌}
 use Rattle.std.proofs.Math.Option.{Option, none, some}
 use Rattle.words.specs.Runs.{run}
 use Rattle.words.specs.Words.{word}
-use Rattle.spec.specs.Basics.{Text, if◌then◌else◌}
+use Rattle.spec.specs.Basics.{Text}
 use Rattle.module.specs.declared.ids.MaybeText.{MaybeText}
 use Rattle.module.specs.declared.ids.MaybeText.TheVariants as maybe_text_lem
 use Rattle.layout.specs.Layout.{texts_place, texts_at, text_limit}

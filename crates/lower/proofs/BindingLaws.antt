@@ -1,8 +1,8 @@
 -- LetIn and AttrSet: their bindings wait as items for the expression. Assumes nothing.
-use mathlib.Core.Path.{◌≡◌, refl, sym, ap, ◌∙◌}
+use mathlib.Core.Path.{◌≡◌, refl}
 use mathlib.Core.Bool.{Bool, true, false}
-use mathlib.Core.List.{List, ◌++◌}
-use Prim.Native.Nat.{ℕ, ◌+◌, ◌≤◌}
+use mathlib.Core.List.{List}
+use Prim.Native.Nat.{ℕ}
 use native.Mathlib.Omega.{arith}
 use lib.ListN.{length}
 use lib.Dec.{eqb}
@@ -11,7 +11,6 @@ use Rattle.spec.specs.Basics.{NodeId}
 use Rattle.spec.specs.Keys.{kind, flag, pointer}
 use Rattle.spec.specs.Module.{Bindings}
 use Rattle.spec.specs.Module as spec
-use Rattle.spec.specs.Steps.{◌>>=◌}
 use Rattle.spec.specs.State.{alloc_expr}
 use Rattle.spec.specs.Merge.{desugar}
 use Rattle.spec.specs.Merge as merging
@@ -35,7 +34,7 @@ use Rattle.merge.specs.Lowers.{Lowering, Collecting}
 use Rattle.merge.specs.Finishes.{binding_items}
 use Rattle.merge.proofs.Steps.{fits, all_lower}
 use Rattle.merge.proofs.Items.{bindings_items, bindings_suit}
-use Rattle.lower.specs.Sizes.{sized, below, sizes, place}
+use Rattle.lower.specs.Sizes.{below, sizes}
 use Rattle.lower.specs.Reads.{HasChildren}
 use Rattle.lower.specs.Parts.{lower_at, merge_at}
 use Rattle.lower.specs.declared.reads.Children.{Children}

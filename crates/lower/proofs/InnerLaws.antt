@@ -1,9 +1,7 @@
 -- A set of its own: it is opened, merged into, finished and cut off again, and the sets around it are as they were.
 -- Assumes nothing.
-use mathlib.Core.Path.{◌≡◌, refl, sym, ap, ◌∙◌}
-use mathlib.Core.Bool.{true}
-use mathlib.Core.List.{List, [], ◌∷◌, ◌++◌}
-use mathlib.Core.Option.{Option}
+use mathlib.Core.Path.{◌≡◌, refl, ap, ◌∙◌}
+use mathlib.Core.List.{List}
 use Prim.Native.Nat.{ℕ, suc, ◌+◌, ◌-◌, ◌*◌, ◌≤◌, ◌<◌}
 use native.Mathlib.Omega.{arith}
 use lib.ListN.{length, take}
@@ -19,13 +17,13 @@ use Rattle.module.specs.declared.kinds.NameKind as code_kind
 use Rattle.module.specs.declared.kinds.NameKind.TheVariants as code_kinds
 use Rattle.module.specs.declared.pointer.Pointer as code_pointer
 use Rattle.spec.specs.Steps.{◌>>=◌, give, asks}
-use Rattle.spec.specs.State.{SetId, MergingSet, MergingEntry, State, Low, new_set, cut, inner}
+use Rattle.spec.specs.State.{SetId, State, Low, new_set, cut, inner}
 use Rattle.spec.specs.Merge.{new_nested, finish_expr, finish, merge_nested_attr_value, merge_entries, desugar}
 use Rattle.spec.specs.Merge as merging
-use Rattle.spec.proofs.general.Sums.{All, all_map}
+use Rattle.spec.proofs.general.Sums.{all_map}
 use Rattle.spec.proofs.once.Weights.{Known}
 use Rattle.spec.proofs.steps.Forest as forest
-use Rattle.spec.proofs.sets.Standing.{Standing, standing_same}
+use Rattle.spec.proofs.sets.Standing.{standing_same}
 use Rattle.spec.proofs.sets.Above.{Above, above_bindings, above_nested}
 use Rattle.spec.proofs.sets.Loads.{load, loads, entries_from, load_forest, loads_forest, above_few}
 use Rattle.layout.specs.Layout.{node_limit}
@@ -41,7 +39,7 @@ use Rattle.open_sets.proofs.RankChanges.{in_order_cut}
 use Rattle.merge.specs.Room.{Resource, exprs, items, names, diagnostics, sets, entries, level, per_node, Price, price, nothing, one_set, ◌⊕◌, covers}
 use Rattle.merge.specs.Lowers.{Lowerable, Setting, Lowered, Lowers, Lowering, Collecting}
 use Rattle.merge.specs.Finishes.{binding_items, Begins, ExprsOnly, Finished, Finishes, Finishing, Listing}
-use Rattle.merge.proofs.Steps.{nodes_still, then_open, fits, all_lower}
+use Rattle.merge.proofs.Steps.{nodes_still, then_open, fits}
 use Rattle.merge.proofs.SetSteps.{opened, opened_below}
 use Rattle.lower.specs.Sizes.{sized, sizes, place}
 use Rattle.lower.specs.Reads.{attrs_from}

@@ -1,19 +1,18 @@
 -- What keys, values and entries weigh, so that an attribute's own node pays for its key. Assumes nothing.
-use mathlib.Core.Path.{◌≡◌, refl, sym, ◌∙◌}
+use mathlib.Core.Path.{◌≡◌, refl}
 use mathlib.Core.Bool.{Bool, true, false}
-use mathlib.Core.List.{List, [], ◌∷◌}
+use mathlib.Core.List.{List}
 use mathlib.Core.Option.{Option, none, some}
-use Prim.Native.Nat.{ℕ, suc, ◌+◌, ◌-◌, ◌≤◌}
+use Prim.Native.Nat.{ℕ, ◌+◌, ◌≤◌}
 use native.Mathlib.Omega.{arith}
 use lib.Dec.{eqb}
 use Rattle.words.specs.Order.{pick}
 use Rattle.spec.specs.Basics.{Text, NodeId, ExprId, maybe}
 use Rattle.spec.specs.Sheet.{Node}
-use Rattle.spec.specs.Keys.{AttrKind, static_key, dynamic_key, kind, text, kid, items, items_after, flatten_paren, get_str_literal, str_key, inside_dynamic, attr_kind}
+use Rattle.spec.specs.Keys.{static_key, dynamic_key, kind, text, kid, items, items_after, flatten_paren, get_str_literal, str_key, inside_dynamic, attr_kind}
 use Rattle.spec.specs.State.{SetId, Low}
 use Rattle.spec.specs.Merge.{entries_of, attributes}
 use Rattle.spec.proofs.tree.Sizes.{Weighs, all_items, first_and_rest, key_size_inside}
-use Rattle.keys.specs.Items.{items_from}
 use Rattle.keys.proofs.ItemLaws.{items_are}
 use Rattle.lower.specs.Sizes.{sized, below, sizes, place, heft}
 use Rattle.lower.specs.Reads.{attrs_from}

@@ -1,4 +1,5 @@
 -- Lambdas: the parameter's name, the fields of the pattern, which wait as items, and the body. Assumes nothing.
+use Rattle.std.specs.Prelude.{if◌then◌else◌}
 use mathlib.Core.Path.{◌≡◌, refl, ap, ◌∙◌}
 use mathlib.Core.Logic.{◌⊎◌, inl, inr}
 use mathlib.Core.Bool.{Bool, true, false}
@@ -8,7 +9,7 @@ use Prim.Native.Nat.{ℕ, ◌+◌}
 use native.Mathlib.Omega.{arith}
 use lib.ListN.{length}
 use lib.Dec.{eqb}
-use Rattle.spec.specs.Basics.{NodeId, ExprId, NameId, if◌then◌else◌}
+use Rattle.spec.specs.Basics.{NodeId, ExprId, NameId}
 use Rattle.spec.specs.Sheet.{Node}
 use Rattle.spec.specs.Keys.{kind, flag, kid, kid_of}
 use Rattle.spec.specs.Module.{Pat}

@@ -1,4 +1,5 @@
 -- What is allocated without lowering anything below it, as steps of lowering. Assumes nothing.
+use Rattle.std.specs.Prelude.{if◌then◌else◌}
 use mathlib.Core.Path.{◌≡◌, refl, sym, ap, ◌∙◌}
 use mathlib.Core.Bool.{Bool, true, false}
 use mathlib.Core.List.{List, []}
@@ -8,7 +9,7 @@ use native.Mathlib.Omega.{arith}
 use lib.ListN.{length}
 use lib.Dec.{eqb}
 use borrow.Author.Tests.{eq-eqb, ne_eqb}
-use Rattle.spec.specs.Basics.{Text, NodeId, ExprId, if◌then◌else◌}
+use Rattle.spec.specs.Basics.{Text, NodeId, ExprId}
 use Rattle.spec.specs.Sheet.{Node}
 use Rattle.spec.specs.Keys.{kind, flag, text, pointer}
 use Rattle.spec.specs.Module as spec

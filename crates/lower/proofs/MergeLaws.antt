@@ -3,7 +3,7 @@ use mathlib.Core.Path.{◌≡◌, refl, sym, ap, ◌∙◌}
 use mathlib.Core.Bool.{Bool, true, false}
 use mathlib.Core.List.{List, [], ◌∷◌}
 use mathlib.Core.Option.{Option, none, some}
-use Prim.Native.Nat.{ℕ, zero, suc, ◌+◌, ◌-◌, ◌≤◌, ◌<◌}
+use Prim.Native.Nat.{ℕ, zero, suc, ◌+◌, ◌-◌, ◌≤◌}
 use native.Mathlib.Omega.{arith}
 use lib.ListN.{length}
 use lib.Dec.{eqb}
@@ -11,9 +11,8 @@ use borrow.Author.Tests.{eq-eqb, ne_eqb}
 use Rattle.words.specs.Order.{pick}
 use Rattle.spec.specs.Basics.{Text, NodeId, ExprId}
 use Rattle.spec.specs.Sheet.{Node}
-use Rattle.spec.specs.Keys.{static_key, dynamic_key, kind, kid, pointer, attr_kind}
-use Rattle.spec.specs.Module.{expr}
-use Rattle.spec.specs.Steps.{◌>>=◌, give, asks, when}
+use Rattle.spec.specs.Keys.{kind, kid, pointer, attr_kind}
+use Rattle.spec.specs.Steps.{◌>>=◌, asks, when}
 use Rattle.spec.specs.State.{SetId, source, dynamic, State, Low, add_entry, inner}
 use Rattle.spec.specs.Merge.{find, nested_at, merge_static_value, new_nested, get_or_create_nested_static, finish_expr, lower_opt, push_dynamic, merge_lowered, merge_into, merge_keyed, merge_attr_as, merge_attr_value, merge_step_as, merge_nested_attr_value, merge_path, merge_attrpath_val, inherit_as, inherit_attr, inherit_source, merge_inherit, merge_entry, merge_entries}
 use Rattle.spec.specs.Merge as merging
@@ -39,7 +38,7 @@ use Rattle.keys.specs.declared.ast_utils.AttrKind.{AttrKind}
 use Rattle.keys.specs.declared.ast_utils.AttrKind.TheVariants.{Static, Dynamic}
 use Rattle.keys.proofs.AnswerLaws.{key_static, key_dynamic}
 use Rattle.open_sets.specs.declared.entry.SetId as code_set
-use Rattle.merge.specs.Room.{Price, price, ◌⊕◌, covers, nothing, one_expr, one_entry, one_set}
+use Rattle.merge.specs.Room.{price, ◌⊕◌, covers, nothing, one_expr, one_entry, one_set}
 use Rattle.merge.specs.Lowers.{Lowerable, Setting, Lowers, Lowering}
 use Rattle.merge.specs.Merges.{value_price, nested_price, inherit_price, Inherits}
 use Rattle.merge.proofs.Steps.{then_open, gave, asked, as_step, yes_when, no_when, fits, all_lower}

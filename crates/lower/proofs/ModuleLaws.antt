@@ -1,12 +1,12 @@
 -- A whole module: an accepted sheet has room for all that lowering takes. Assumes nothing.
-use mathlib.Core.Path.{◌≡◌, refl, sym, ap, ◌∙◌}
+use mathlib.Core.Path.{◌≡◌, refl, ap, ◌∙◌}
 use mathlib.Core.Logic.{inl, inr, ⊎_elim}
 use mathlib.Core.List.{List, [], ◌∷◌}
 use Prim.Native.Nat.{ℕ, ◌+◌, ◌-◌, ◌*◌, ◌≤◌}
 use native.Mathlib.Omega.{arith}
 use lib.ListN.{length}
 use Rattle.words.specs.Words.{word}
-use Rattle.spec.specs.Sheet.{Node, accepted}
+use Rattle.spec.specs.Sheet.{accepted}
 use Rattle.spec.specs.Tree.{judge}
 use Rattle.spec.specs.State.{State, empty}
 use Rattle.spec.specs.Lower.{lower_expr, lower_module, module_of}
@@ -19,10 +19,10 @@ use Rattle.spec.proofs.once.Linear.{at_depth}
 use Rattle.spec.proofs.once.Leaves.{weightless}
 use Rattle.layout.specs.Layout.{node_limit, node_count}
 use Rattle.layout.specs.Rows.{cap}
-use Rattle.layout.specs.Changes.{Outside, Wrote, Still}
+use Rattle.layout.specs.Changes.{Outside, Wrote}
 use Rattle.layout.specs.Regions.{writing}
 use Rattle.layout.specs.Nodes.{node_in, nodes_of}
-use Rattle.layout.specs.States.{sets_of, entries_of, order_of, state_of, module_in, waiting_of, used_of}
+use Rattle.layout.specs.States.{state_of, module_in, waiting_of}
 use Rattle.layout.proofs.RowLaws.{length_rows, cap_lim}
 use Rattle.layout.proofs.Frames.{sets_kept, entries_kept, waiting_kept}
 use Rattle.layout.proofs.WriteLaws.{still_then}
@@ -32,7 +32,7 @@ use Rattle.store.proofs.CodedLaws.{fine_kept}
 use Rattle.store.specs.Work.{Work, work_of, no_work, lowering, Fine, SetEntry}
 use Rattle.open_sets.proofs.RankLaws.{in_order_none}
 use Rattle.merge.specs.Room.{Resource, exprs, items, names, diagnostics, sets, entries, level, per_node, price, own_node}
-use Rattle.merge.specs.Lowers.{Lowerable, Setting, Lowered, Floats}
+use Rattle.merge.specs.Lowers.{Lowerable, Setting}
 use Rattle.lower.specs.Sizes.{sized, below}
 use Rattle.lower.specs.Parts.{LowersNode}
 use Rattle.lower.specs.Whole.{Whole, LowersAll}

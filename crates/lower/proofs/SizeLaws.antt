@@ -1,4 +1,5 @@
 -- What the parts of a node weigh beside the node, in the sizes that the contracts of lowering count. Assumes nothing.
+use Rattle.std.specs.Prelude.{if◌then◌else◌}
 use mathlib.Core.Path.{◌≡◌, refl}
 use mathlib.Core.Bool.{Bool, true, false}
 use mathlib.Core.List.{List}
@@ -6,7 +7,7 @@ use mathlib.Core.Option.{Option, none, some}
 use Prim.Native.Nat.{◌+◌, ◌-◌, ◌≤◌}
 use native.Mathlib.Omega.{arith}
 use lib.Dec.{eqb}
-use Rattle.spec.specs.Basics.{NodeId, if◌then◌else◌}
+use Rattle.spec.specs.Basics.{NodeId}
 use Rattle.spec.specs.Sheet.{Node}
 use Rattle.spec.specs.Keys.{kind, kid, kid_of}
 use Rattle.spec.proofs.tree.Sizes.{Weighs, place_size, positive, places_three, first_and_rest}

@@ -1,7 +1,7 @@
 -- The contracts of lowering: the definitions at a depth, and which items wait.
-use Rattle.std.specs.Prelude.{◌≡◌, List, [], ◌∷◌, ℕ, eqb}
-use Rattle.std.proofs.Math.Option.{Option, none, some}
-use Rattle.spec.specs.Basics.{Text, NodeId, ExprId, NameId, if◌then◌else◌}
+use Rattle.std.specs.Prelude.{◌≡◌, List, [], ◌∷◌, ℕ, eqb, if◌then◌else◌}
+use Rattle.std.proofs.Math.Option.{Option, some}
+use Rattle.spec.specs.Basics.{Text, NodeId, ExprId, NameId}
 use Rattle.spec.specs.Sheet.{Node}
 use Rattle.spec.specs.Module.{Pointer, InterpolPart, literal_part, interpol, Expr, apply, with_in, assert_in}
 use Rattle.spec.specs.Steps.{◌>>=◌}
@@ -11,7 +11,7 @@ use Rattle.spec.specs.Lower.{lower_expr, merge_bindings}
 use Rattle.layout.specs.Exprs.{Item, child, text, field}
 use Rattle.module.specs.declared.expr.Expr as code
 use Rattle.rows.specs.Decoded.{expr_with, ValidExpr}
-use Rattle.merge.specs.Room.{Price, one_expr, own_node}
+use Rattle.merge.specs.Room.{one_expr, own_node}
 use Rattle.merge.specs.Lowers.{Lowering}
 use Rattle.lower.specs.Sizes.{below, heft}
 

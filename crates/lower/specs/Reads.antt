@@ -1,7 +1,7 @@
 -- What lowering reads of nodes and open sets before it writes.
-use Rattle.std.specs.Prelude.{◌≡◌, Bool, true, false, List, [], ◌∷◌, ℕ, ◌≤◌, ◌<◌, eqb}
+use Rattle.std.specs.Prelude.{◌≡◌, Bool, true, false, List, [], ◌∷◌, ℕ, ◌≤◌, ◌<◌, eqb, if◌then◌else◌}
 use Rattle.std.proofs.Math.Option.{Option, none, some}
-use Rattle.spec.specs.Basics.{Text, NodeId, ExprId, if◌then◌else◌}
+use Rattle.spec.specs.Basics.{Text, NodeId, ExprId}
 use Rattle.spec.specs.Sheet.{Node}
 use Rattle.spec.specs.Keys.{kind, kid, kid_of, pointer, flag}
 use Rattle.spec.specs.State.{SetId, Low}

@@ -1,7 +1,7 @@
 -- What the steps of lowering may take, in nodes of the sheet.
-use Rattle.std.specs.Prelude.{List, ℕ, ◌-◌, eqb}
+use Rattle.std.specs.Prelude.{List, ℕ, ◌-◌, eqb, if◌then◌else◌}
 use Rattle.std.proofs.Math.Option.{Option, none, some}
-use Rattle.spec.specs.Basics.{NodeId, if◌then◌else◌}
+use Rattle.spec.specs.Basics.{NodeId}
 use Rattle.spec.specs.Sheet.{Node}
 use Rattle.spec.specs.Keys.{kind}
 use Rattle.spec.proofs.general.Sums.{sum_by}

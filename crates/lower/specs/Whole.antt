@@ -8,7 +8,7 @@ use Rattle.layout.specs.Regions.{writing}
 use Rattle.layout.specs.Nodes.{nodes_of}
 use Rattle.layout.specs.States.{module_in, sets_of, entries_of, waiting_of}
 use Rattle.soundness.specs.Coded.{ModuleFits}
-use Rattle.store.specs.Work.{work_of, no_work, lowering, Fine}
+use Rattle.store.specs.Work.{work_of, no_work, Fine}
 
 -- the module is there, and no work is left
 pub record Whole (s t : List ℕ) : Type 0 where

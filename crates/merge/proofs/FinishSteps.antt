@@ -12,7 +12,7 @@ use Rattle.layout.specs.Changes.{Wrote, Still}
 use Rattle.layout.specs.Exprs.{Item}
 use Rattle.layout.specs.States.{order_of, state_of, waiting_of, used_of}
 use Rattle.store.specs.Codes.{hole_made}
-use Rattle.store.specs.Work.{Work, work_of, lowering, suits, Fine, Did, Takes, take_row, take_lone, push_item}
+use Rattle.store.specs.Work.{Work, work_of, lowering, suits, Fine, Did, Takes, take_lone, push_item}
 use Rattle.open_sets.specs.Ranks.{sorted}
 use Rattle.merge.specs.Lowers.{Lowerable}
 use Rattle.merge.specs.Finishes.{Begins, ExprsOnly, Finished, Listing, only}

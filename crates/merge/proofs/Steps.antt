@@ -1,11 +1,10 @@
 -- How steps of lowering follow one another, with their room. Assumes nothing.
-use mathlib.Core.Path.{◌≡◌, refl, sym, ap, ◌∙◌}
-use mathlib.Core.Bool.{Bool, true, false, ◌&&◌, and-eq-true_iff}
-use mathlib.Core.List.{List, [], ◌∷◌, ◌++◌}
-use Prim.Native.Nat.{ℕ, suc, ◌+◌, ◌*◌, ◌≤◌, ◌<◌}
+use mathlib.Core.Path.{◌≡◌, refl, ap, ◌∙◌}
+use mathlib.Core.Bool.{Bool, true, false, and-eq-true_iff}
+use mathlib.Core.List.{List}
+use Prim.Native.Nat.{ℕ, ◌+◌, ◌*◌, ◌≤◌}
 use native.Mathlib.Omega.{arith}
 use lib.ListN.{length}
-use lib.Dec.{leb}
 use borrow.Author.Tests.{leb-true}
 use Rattle.spec.specs.Sheet.{Node}
 use Rattle.spec.specs.Steps.{◌>>=◌, give, asks, when}
@@ -21,9 +20,9 @@ use Rattle.layout.specs.States.{sets_of, state_of, waiting_of}
 use Rattle.layout.proofs.Frames.{wrote_none, wrote_then, word_still, text_still}
 use Rattle.layout.proofs.RowLaws.{rows_same, between_same}
 use Rattle.layout.proofs.WriteLaws.{still_then}
-use Rattle.store.specs.Work.{work_of, lowering}
-use Rattle.merge.specs.Room.{Resource, exprs, items, names, diagnostics, sets, entries, level, per_node, Price, nothing, price, ◌⊕◌, covers}
-use Rattle.merge.specs.Lowers.{Lowerable, Setting, Lowered, Lowers, Lowering, Collecting}
+use Rattle.store.specs.Work.{lowering}
+use Rattle.merge.specs.Room.{Resource, exprs, items, names, diagnostics, sets, entries, per_node, Price, nothing, price, ◌⊕◌, covers}
+use Rattle.merge.specs.Lowers.{Setting, Lowered, Lowers, Lowering}
 
 -- ---- the nodes, where they are still
 first_still : (s t : List ℕ) (i : ℕ) → Still s t → first_kid t i ≡ first_kid s i

@@ -1,5 +1,5 @@
 -- What lowering takes of a store's room. A store has room for so much of everything for each of 4096 nodes.
-use Rattle.std.specs.Prelude.{Bool, ◌&&◌, List, ℕ, ◌+◌, ◌*◌, length, leb}
+use Rattle.std.specs.Prelude.{Bool, ◌&&◌, ℕ, ◌+◌, ◌*◌, length, leb}
 use Rattle.store.specs.Work.{Work}
 
 pub data Resource : Type 0 where

@@ -1,6 +1,5 @@
 -- The kinds of names: what each is in the definitions, and its number in a store.
-use Rattle.std.specs.Prelude.{ℕ, eqb}
-use Rattle.spec.specs.Basics.{if◌then◌else◌}
+use Rattle.std.specs.Prelude.{ℕ, eqb, if◌then◌else◌}
 use Rattle.spec.specs.Module as spec
 use Rattle.module.specs.declared.kinds.NameKind.{NameKind}
 use Rattle.module.specs.declared.kinds.NameKind.TheVariants.{LetIn, PlainAttrset, RecAttrset, Param, PatField}

@@ -13,7 +13,6 @@ use Rattle.words.specs.Words.{word, set_word}
 use Rattle.spec.specs.Basics.{Text, ExprId}
 use Rattle.spec.specs.Module.{Made}
 use Rattle.spec.specs.Scopes.{expr_at, made_at, name_at}
-use Rattle.spec.specs.Answer as spec
 use Rattle.spec.specs.Answer.{text_of_name, answer_at, scope_of_expr, reference_text, answer_of, answer}
 use Rattle.spec.specs.Calls.{Place, at_name, at_reference, set_name, set_reference}
 use Rattle.spec.specs.Moved.{same_answer, cons_if, bears, may_move}
@@ -71,6 +70,13 @@ module _ (p : Place) (t : Text) (e : ExprId) (s : List ℕ) (a : Answer) (again 
           }
 
 -- ---- by a name
+-- what bears no text stays
+pub bare_stays : (s : List ℕ) (x : ℕ) (new : Text) (e : ExprId) (r : MaybeText) → maybe_text s r ≡ reference_text (expr_at (module_in s) e) → r ≡ maybe_text_lem.Absent → MovesTo (at_name x) new e s Stays
+unfolding may_move bears maybe_text
+bare_stays s x new e r reads q =
+    let bare : reference_text (expr_at (module_in s) e) ≡ none = sym reads ∙ ap (maybe_text s) q in
+    staying (at_name x) new e s (unmovable (kept_in s) (at_name x) new e (rw (module_kept s, scopes_of_lem s, bare)))
+
 module _ (s : List ℕ) (x : ℕ) (new : Text) (e : ExprId) (b : Bool) (may : b ≡ may_move (module_in s) (scopes_in s) (at_name x) new e) where
   may_kept : may_move (kept_in s).lowered (kept_in s).scopes (at_name x) new e ≡ b
   may_kept = rw (module_kept s, scopes_of_lem s) (sym may)

@@ -1,4 +1,5 @@
 -- Answers held against each other. Assumes nothing.
+use Rattle.std.specs.Prelude.{if◌then◌else◌}
 use mathlib.Core.Path.{◌≡◌, refl, sym, ap, ◌∙◌}
 use mathlib.Core.Bool.{Bool, true, false, ◌&&◌}
 use mathlib.Core.List.{List}
@@ -8,7 +9,7 @@ use lib.Dec.{eqb}
 use borrow.Author.Tests.{eq-eqb, ne_eqb}
 use Rattle.words.specs.Equality.{equalb}
 use Rattle.words.proofs.EqualityLaws.{equalb_refl}
-use Rattle.spec.specs.Basics.{ExprId, if◌then◌else◌}
+use Rattle.spec.specs.Basics.{ExprId}
 use Rattle.spec.specs.Answer as spec
 use Rattle.spec.specs.Moved.{numbers_of, same_answer}
 use Rattle.spec.specs.Kept.{kept_answer}

@@ -1,8 +1,8 @@
 -- What a text set at a place moves in a store: one answer, and all of them.
-use Rattle.std.specs.Prelude.{◌≡◌, Bool, true, false, not, List, [], ℕ, ◌+◌, ◌*◌, ◌≤◌, ◌<◌, length, set}
+use Rattle.std.specs.Prelude.{◌≡◌, Bool, true, false, not, List, [], ℕ, ◌+◌, ◌*◌, ◌≤◌, ◌<◌, length, set, if◌then◌else◌}
 use Rattle.std.proofs.Math.Option.{Option, some}
 use Rattle.words.specs.Words.{word}
-use Rattle.spec.specs.Basics.{Text, ExprId, NameId, if◌then◌else◌}
+use Rattle.spec.specs.Basics.{Text, ExprId, NameId}
 use Rattle.spec.specs.Scopes.{expr_at, name_at, holder}
 use Rattle.spec.specs.Answer as spec
 use Rattle.spec.specs.Answer.{answer_at, reference_text, scope_of_expr}

@@ -33,10 +33,14 @@ fn moved_by_name(store: &[u8], e: ExprId, x: Named, new: &[u8]) -> Moved
     unless_kept(store, e, a)
 }
 
+// Most expressions are no References, and are left at once.
 fn count_one(store: &[u8], e: ExprId, x: Named, new: &[u8]) -> u32
     requires { Long store.now × About store.now x }
     ensures { result ≡ length (cons_if (differs (kept_in store.now) (at_name x.name.0) new.now e.0) e.0 []) }
 {
+    let MaybeText::Text(_) = reference_text(store, e) else {
+        return 0;
+    };
     match moved_by_name(store, e, x, new) {
         Moved::To(_) => 1,
         Moved::Stays => 0,
@@ -64,6 +68,9 @@ fn move_one(store: &mut [u8], e: ExprId, x: Named, new: &[u8], moved: &mut [u8],
     requires { Long store.old × (About store.old x × Fits (differs (kept_in store.old) (at_name x.name.0) new.now e.0) n moved.old) }
     ensures { MovesOne (at_name x.name.0) new.now e.0 n store.old moved.old result store.new moved.new }
 {
+    let MaybeText::Text(_) = reference_text(store, e) else {
+        return n;
+    };
     match moved_by_name(store, e, x, new) {
         Moved::To(a) => {
             set_answer(store, e, a);

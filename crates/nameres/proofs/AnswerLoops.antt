@@ -1,15 +1,12 @@
 -- The answers of all expressions, one after the other. Assumes nothing.
 use mathlib.Core.Path.{◌≡◌, refl, sym, ap, ◌∙◌}
-use mathlib.Core.Bool.{Bool, true, false}
-use mathlib.Core.List.{List, [], ◌∷◌, ◌++◌}
-use mathlib.Core.Option.{Option, none, some}
-use Prim.Native.Nat.{ℕ, zero, suc, ◌+◌, ◌≤◌, ◌<◌}
+use mathlib.Core.List.{List}
+use Prim.Native.Nat.{ℕ, zero, suc, ◌≤◌, ◌<◌}
 use native.Mathlib.Nat.{zero-add}
 use native.Mathlib.Omega.{arith}
-use lib.Dec.{eqb}
 use lib.ListN.{length, get_or, set, length-set}
 use lib.Seq.{ext_get_or, get_or-set_same, get_or-set_other}
-use Rattle.spec.specs.Kept.{Kept, tabulate}
+use Rattle.spec.specs.Kept.{tabulate}
 use Rattle.spec.proofs.general.Sums.{compared}
 use Rattle.spec.proofs.general.ListLaws.{get_d_tabulate, length_tabulate}
 use Rattle.nameres.specs.Resolution.{set_to}

@@ -16,10 +16,8 @@ use Rattle.layout.specs.Layout.{loaded_text_limit, expr_count, texts_place, Long
 use Rattle.layout.specs.Rows.{cap, rows_to}
 use Rattle.layout.specs.Regions.{keeping}
 use Rattle.layout.specs.Nodes.{nodes_of}
-use Rattle.layout.specs.Exprs.{made_in}
 use Rattle.layout.specs.States.{exprs_of, state_of, module_in}
 use Rattle.layout.specs.Keeps.{kept_in}
-use Rattle.layout.proofs.RowLaws.{length_rows}
 use Rattle.layout.proofs.Frames.{number_kept}
 use Rattle.soundness.specs.Sound.{condition_of}
 use Rattle.soundness.specs.Coded.{ModuleFits}

@@ -1,26 +1,21 @@
 -- A lowered module: its scopes, answers and references together are what a load leaves. Assumes nothing.
 use mathlib.Core.Path.{◌≡◌, refl, ap, ◌∙◌}
-use mathlib.Core.Logic.{◌⊎◌, inl, inr, ⊎_elim}
+use mathlib.Core.Logic.{inl, inr, ⊎_elim}
 use mathlib.Core.Bool.{true}
-use mathlib.Core.List.{List, [], ◌∷◌}
-use Prim.Native.Nat.{ℕ, ◌+◌, ◌*◌, ◌≤◌}
+use mathlib.Core.List.{List}
+use Prim.Native.Nat.{ℕ, ◌≤◌}
 use native.Mathlib.Omega.{arith}
 use lib.ListN.{length}
 use Rattle.words.specs.Words.{word}
-use Rattle.spec.specs.Sheet.{Node, accepted}
-use Rattle.spec.specs.Tree.{judge}
-use Rattle.spec.specs.Lower.{lower_module, module_of}
+use Rattle.spec.specs.Lower.{module_of}
 use Rattle.spec.specs.Scopes.{scopes_of}
 use Rattle.spec.specs.Answer.{scope_at}
-use Rattle.spec.specs.Kept.{Kept, kept_of, loaded}
-use Rattle.spec.proofs.general.Sums.{all_map}
-use Rattle.spec.proofs.sound.ScopeRange.{KindIn}
-use Rattle.spec.proofs.sound.Sound.{kinds_in, lowered_sound}
+use Rattle.spec.specs.Kept.{Kept, kept_of}
+use Rattle.spec.proofs.sound.Sound.{kinds_in}
 use Rattle.layout.specs.Layout.{expr_limit, name_limit, loaded_text_limit, expr_count, name_count, spent_place, texts_place}
 use Rattle.layout.specs.Rows.{cap}
-use Rattle.layout.specs.Changes.{Range, Outside, Wrote, Still}
+use Rattle.layout.specs.Changes.{Outside, Wrote, Still}
 use Rattle.layout.specs.Regions.{keeping}
-use Rattle.layout.specs.Nodes.{nodes_of}
 use Rattle.layout.specs.Exprs.{made_in}
 use Rattle.layout.specs.States.{name_in, exprs_of, names_of, state_of, module_in}
 use Rattle.layout.specs.Keeps.{scopes_in, kept_in}
@@ -33,7 +28,6 @@ use Rattle.soundness.proofs.CodedLaws.{sound_parts}
 use Rattle.soundness.proofs.FrameLaws.{module_fits_kept, scopes_fit_apart, kept_fits_kept}
 use Rattle.kept.specs.Walks.{walking}
 use Rattle.kept.specs.TextChanges.{Spent}
-use Rattle.kept.proofs.KeepFrames.{module_kept}
 use Rattle.nameres.specs.Resolution.{Nameable, Scoped, Resolved}
 use Rattle.scopes.specs.Whole.{ScopesAll}
 use Rattle.nameres.specs.Loaded.{Keepable, KeepsAll}

@@ -17,7 +17,7 @@ use Rattle.words.proofs.WordLaws.{length_set_word, word_set_word_same, word_set_
 use Rattle.spec.specs.State.{MergingEntry, add_entry, set_entries}
 use Rattle.spec.specs.Steps.{◌>>=◌, asks}
 use Rattle.layout.specs.Layout.{entry_limit, entry_count, entries_at, run_at, sheet_at, Long}
-use Rattle.layout.specs.Rows.{cap, rows_to}
+use Rattle.layout.specs.Rows.{rows_to}
 use Rattle.layout.specs.Changes.{Outside, Wrote, Still}
 use Rattle.layout.specs.States.{entry_in, entries_of, state_of, order_of}
 use Rattle.layout.proofs.RowLaws.{rows_same, length_rows, cap_le, cap_over}

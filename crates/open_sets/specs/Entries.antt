@@ -1,8 +1,7 @@
 -- Entries of the sets that are being merged: what the code's are in the definitions, and steps on sets and entries in a
 -- store.
-use Rattle.std.specs.Prelude.{◌≡◌, List, [], ◌∷◌, ℕ, ◌+◌, ◌*◌, ◌<◌, length, take, ltb}
+use Rattle.std.specs.Prelude.{◌≡◌, List, [], ◌∷◌, ℕ, ◌+◌, ◌*◌, ◌<◌, length, take, ltb, if◌then◌else◌}
 use Rattle.std.proofs.Math.Option.{Option, none, some}
-use Rattle.spec.specs.Basics.{if◌then◌else◌}
 use Rattle.spec.specs.Module as spec
 use Rattle.spec.specs.State.{MergingEntry, static, source, dynamic, new_set, set_entry, cut}
 use Rattle.spec.specs.State as state
@@ -13,7 +12,6 @@ use Rattle.layout.specs.Changes.{Wrote, Still}
 use Rattle.layout.specs.Texts.{text_in}
 use Rattle.layout.specs.States.{entry_of, entry_in}
 use Rattle.store.specs.Work.{Working, with_state}
-use Rattle.open_sets.specs.declared.entry.SetId.{SetId}
 use Rattle.open_sets.specs.declared.entry.MaybeSet.{MaybeSet}
 use Rattle.open_sets.specs.declared.entry.MaybeSet.TheVariants as maybe_set
 use Rattle.open_sets.specs.declared.entry.MaybeValue.{MaybeValue}

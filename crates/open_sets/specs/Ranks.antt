@@ -1,10 +1,10 @@
 -- The run: the numbers of the entries that are being merged, in the order of their sets, within a set statics, then
 -- sources, then dynamics, and statics in the byte order of their keys. Of equal ones the earlier number stands first.
-use Rattle.std.specs.Prelude.{◌≡◌, Bool, true, false, List, [], ◌∷◌, ◌++◌, map, ℕ, suc, get_or}
+use Rattle.std.specs.Prelude.{◌≡◌, Bool, true, false, List, [], ◌∷◌, ◌++◌, map, ℕ, suc, get_or, if◌then◌else◌}
 use Rattle.words.specs.Order.{order}
 use Rattle.words.specs.declared.ordering.Order.{Order}
 use Rattle.words.specs.declared.ordering.Order.TheVariants.{Less, Equal, Greater}
-use Rattle.spec.specs.Basics.{Text, ExprId, if◌then◌else◌}
+use Rattle.spec.specs.Basics.{Text, ExprId}
 use Rattle.spec.specs.State.{SetId, MergingEntry, static, source, dynamic}
 use Rattle.spec.specs.Merge.{set_of, Static, statics_of, sources_of, dynamics_of}
 

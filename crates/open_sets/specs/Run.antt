@@ -1,12 +1,11 @@
 -- The run in a store: where an entry stands in it, the entries of a set one after the other, and what adding an entry
 -- does.
-use Rattle.std.specs.Prelude.{◌≡◌, Bool, true, false, not, List, [], ◌∷◌, ℕ, ◌+◌, ◌*◌, ◌≤◌, ◌<◌, length, get_or, drop, eqb, ltb}
+use Rattle.std.specs.Prelude.{◌≡◌, Bool, true, false, not, List, [], ◌∷◌, ℕ, ◌+◌, ◌*◌, ◌≤◌, ◌<◌, length, get_or, drop, eqb, ltb, if◌then◌else◌}
 use Rattle.std.proofs.Math.Option.{Option, none, some}
 use Rattle.words.specs.Order.{order}
 use Rattle.words.specs.Words.{word}
 use Rattle.words.specs.declared.ordering.Order.{Order}
 use Rattle.words.specs.declared.ordering.Order.TheVariants.{Less, Equal, Greater}
-use Rattle.spec.specs.Basics.{if◌then◌else◌}
 use Rattle.spec.specs.State.{SetId, MergingEntry, source, State, add_entry}
 use Rattle.spec.specs.Merge.{set_of}
 use Rattle.layout.specs.Layout.{entry_limit, entry_count, run_at}

@@ -7,23 +7,26 @@ use ask::ask_reference;
 use kept::scope_count;
 use layout::tables::STORE_BYTES;
 use rows::{diagnostic_count, expr_count, name_count};
+use std::io::{self, Write};
 use words::get32;
 
-pub fn print_refusal(number: u32, place: u32) {
-    print_line(b"refused=", number);
-    print_line(b"at=", place);
+pub fn print_refusal<W: Write>(out: &mut W, number: u32, place: u32) -> io::Result<()> {
+    print_line(out, b"refused=", number)?;
+    print_line(out, b"at=", place)
 }
 
 // `to=` has the name or the index, the Withs with commas, or nothing.
-pub fn print_answer(answer: u32, value: u32, withs: &[u8; 16384], with_count: u32) {
-    print_line(b"answer=", answer);
+pub fn print_answer<W: Write>(
+    out: &mut W,
+    answer: u32,
+    value: u32,
+    withs: &[u8; 16384],
+    with_count: u32,
+) -> io::Result<()> {
+    print_line(out, b"answer=", answer)?;
     match answer {
-        1 | 2 => {
-            print_line(b"to=", value);
-        }
-        _ => {
-            print_list(b"to=", withs, with_count);
-        }
+        1 | 2 => print_line(out, b"to=", value),
+        _ => print_list(out, b"to=", withs, with_count),
     }
 }
 
@@ -36,47 +39,58 @@ pub fn reply_word(reply: &[u8; 32], at: usize) -> u32
 }
 
 // An expression that is no Reference is refused by its asking, and nothing is printed of it.
-fn print_reference(store: &[u8], number: u32, buffer: &mut [u8; 16384]) {
+fn print_reference<W: Write>(
+    out: &mut W,
+    store: &[u8],
+    number: u32,
+    buffer: &mut [u8; 16384],
+) -> io::Result<()> {
     let mut reply = [0u8; 32];
     if ask_reference(store, number, buffer, &mut reply) != 0 {
-        return;
+        return Ok(());
     }
-    print_line(b"ref=", number);
+    print_line(out, b"ref=", number)?;
     print_answer(
+        out,
         reply_word(&reply, 8),
         reply_word(&reply, 12),
         buffer,
         reply_word(&reply, 16),
-    );
+    )
 }
 
 // The first expressions of a store, as far as they are References.
-fn print_references(store: &[u8], exprs: u32) {
+fn print_references<W: Write>(out: &mut W, store: &[u8], exprs: u32) -> io::Result<()> {
     // As many bytes as a list of all scopes takes: no list of Withs is longer.
     let mut buffer = [0u8; 16384];
     for number in 0..exprs {
-        print_reference(store, number, &mut buffer);
+        print_reference(out, store, number, &mut buffer)?;
     }
+    Ok(())
 }
 
 // The counts of a loaded store, and what each Reference means.
-pub fn print_module(store: &[u8]) {
+pub fn print_module<W: Write>(out: &mut W, store: &[u8]) -> io::Result<()> {
     if store.len() < STORE_BYTES {
-        return;
+        return Ok(());
     }
     let exprs = expr_count(store);
-    print_line(b"exprs=", exprs);
-    print_line(b"names=", name_count(store));
-    print_line(b"scopes=", scope_count(store));
-    print_line(b"dups=", diagnostic_count(store));
-    print_references(store, exprs);
+    print_line(out, b"exprs=", exprs)?;
+    print_line(out, b"names=", name_count(store))?;
+    print_line(out, b"scopes=", scope_count(store))?;
+    print_line(out, b"dups=", diagnostic_count(store))?;
+    print_references(out, store, exprs)
 }
 
 // What a load came to: why it was refused, as its reply says, or what the store then tells.
-pub fn print_load(refused: u32, reply: &[u8; 32], store: &[u8]) {
+pub fn print_load<W: Write>(
+    out: &mut W,
+    refused: u32,
+    reply: &[u8; 32],
+    store: &[u8],
+) -> io::Result<()> {
     if refused != 0 {
-        print_refusal(refused, reply_word(reply, 4));
-        return;
+        return print_refusal(out, refused, reply_word(reply, 4));
     }
-    print_module(store);
+    print_module(out, store)
 }

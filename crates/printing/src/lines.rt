@@ -1,29 +1,29 @@
 // A line: its key, and a number or a list of numbers with commas between them.
-use libc::STDOUT_FILENO;
+use std::io::{self, Write};
 use words::get32;
 
-pub fn print_line(key: &[u8], value: u32) {
-    io::write_all(STDOUT_FILENO, key);
-    io::print_decimal(STDOUT_FILENO, value as u64);
-    io::write_all(STDOUT_FILENO, b"\n");
+pub fn print_line<W: Write>(out: &mut W, key: &[u8], value: u32) -> io::Result<()> {
+    out.write_all(key)?;
+    writeln!(out, "{value}")
 }
 
 // Nothing is printed of a number that the list does not have.
-fn print_item(list: &[u8], i: usize) {
+fn print_item<W: Write>(out: &mut W, list: &[u8], i: usize) -> io::Result<()> {
     if list.len() / 4 <= i {
-        return;
+        return Ok(());
     }
     if 0 < i {
-        io::write_all(STDOUT_FILENO, b",");
+        out.write_all(b",")?;
     }
-    io::print_decimal(STDOUT_FILENO, get32(list, 4 * i) as u64);
+    let value = get32(list, 4 * i);
+    write!(out, "{value}")
 }
 
 // The first numbers of a list, each of four bytes, as a call leaves it in a buffer.
-pub fn print_list(key: &[u8], list: &[u8], count: u32) {
-    io::write_all(STDOUT_FILENO, key);
+pub fn print_list<W: Write>(out: &mut W, key: &[u8], list: &[u8], count: u32) -> io::Result<()> {
+    out.write_all(key)?;
     for i in 0..count {
-        print_item(list, i as usize);
+        print_item(out, list, i as usize)?;
     }
-    io::write_all(STDOUT_FILENO, b"\n");
+    out.write_all(b"\n")
 }

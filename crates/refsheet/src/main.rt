@@ -4,24 +4,24 @@
 #![tactic(auto)]
 
 use layout::tables::STORE_BYTES;
-use libc::STDIN_FILENO;
 use load::load;
 use printing::{print_load, print_refusal};
+use std::io::{self, Read, Write};
 
-fn show(sheet: &[u8], store: &mut [u8; STORE_BYTES]) {
+fn show<W: Write>(out: &mut W, sheet: &[u8], store: &mut [u8; STORE_BYTES]) -> io::Result<()> {
     let mut reply = [0u8; 32];
     let refused = load(sheet, store, &mut reply);
-    print_load(refused, &reply, store);
+    print_load(out, refused, &reply, store)
 }
 
-fn main() {
+fn main(rt: HostRuntime) -> io::Result<()> {
+    let mut out = io::writer(&rt);
     let mut store = [0u8; STORE_BYTES];
     // One byte more than a sheet may have here, so that a longer one shows.
     let mut text = [0u8; 65537];
-    let n = io::read_full(STDIN_FILENO, &mut text);
+    let n = io::copy(&mut rt.reader().take(65537), &mut &mut text[..])?;
     if 65536 < n {
-        print_refusal(1, 0);
-        return;
+        return print_refusal(&mut out, 1, 0);
     }
-    show(&text[..n], &mut store);
+    show(&mut out, &text[..n as usize], &mut store)
 }

@@ -1,7 +1,7 @@
 -- What a host is told of a call: the number returned, the five words of the reply, and the list in the buffer
 -- (docs/STORE.md, "Reply and buffer").
-use Rattle.std.specs.Prelude.{◌≡◌, List, [], ◌∷◌, ℕ, length, ltb}
-use Rattle.spec.specs.Basics.{ExprId, if◌then◌else◌}
+use Rattle.std.specs.Prelude.{◌≡◌, List, [], ◌∷◌, ℕ, length, ltb, if◌then◌else◌}
+use Rattle.spec.specs.Basics.{ExprId}
 use Rattle.spec.specs.Sheet.{Judged}
 use Rattle.spec.specs.Calls.{Outcome, refusal, answered, listed, accepted, reply_bytes, with_list}
 use Rattle.layout.specs.Rows.{set_all}

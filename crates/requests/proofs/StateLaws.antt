@@ -1,4 +1,5 @@
 -- The checks that every call begins with, and what each call was from what its steps did. Assumes nothing.
+use Rattle.std.specs.Prelude.{if◌then◌else◌}
 use mathlib.Core.Path.{◌≡◌, refl, sym, ap, ◌∙◌}
 use mathlib.Core.Bool.{Bool, true, false, or-true, or-false}
 use mathlib.Core.List.{List}
@@ -8,7 +9,6 @@ use lib.ListN.{length}
 use lib.Dec.{ltb}
 use borrow.Author.Tests.{ltb-true, ltb-false, le-ltb, lt-ltb, ne_eqb}
 use Rattle.words.specs.Equality.{equalb}
-use Rattle.spec.specs.Basics.{if◌then◌else◌}
 use Rattle.spec.specs.Lower.{module_of}
 use Rattle.spec.specs.Calls.{Condition, fit, Call, Outcome, refusal, reply_bytes, check, reply_of, answer_call, outcome, is_accepted, old_text, new_text}
 use Rattle.spec.specs.Kept.{kept_answer, kept_references, changed, kept_moved, kept_outcome, kept_after}

@@ -1,7 +1,6 @@
 -- What a call that asks or changes makes of the bytes that it finds, whoever wrote them: a store as a load left it, or
 -- any other (docs/RULES.md, "What a refusal leaves", "The condition of a store").
-use Rattle.std.specs.Prelude.{◌≡◌, false, List, ℕ, length, ltb, eqb}
-use Rattle.spec.specs.Basics.{if◌then◌else◌}
+use Rattle.std.specs.Prelude.{◌≡◌, false, List, ℕ, length, ltb, eqb, if◌then◌else◌}
 use Rattle.spec.specs.Calls.{fit, Call, Outcome, refusal, reply_bytes, answer_call, is_accepted, old_text, new_text}
 use Rattle.spec.specs.Kept.{kept_answer, kept_references, kept_moved, kept_outcome, kept_after}
 use Rattle.layout.specs.Changes.{Wrote}

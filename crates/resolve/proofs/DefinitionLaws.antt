@@ -1,4 +1,5 @@
 -- The search for a text among the names of a scope, from the last one down. Assumes nothing.
+use Rattle.std.specs.Prelude.{if◌then◌else◌}
 use mathlib.Core.Path.{◌≡◌, refl, sym, ap, ◌∙◌}
 use mathlib.Core.Bool.{Bool, true, false}
 use mathlib.Core.List.{List, [], ◌∷◌, ◌++◌}
@@ -8,7 +9,7 @@ use native.Mathlib.Omega.{arith}
 use lib.ListN.{length, take, get_or, get_elem?}
 use lib.Seq.{take-suc, take-length}
 use Rattle.words.specs.Equality.{equalb}
-use Rattle.spec.specs.Basics.{Text, if◌then◌else◌}
+use Rattle.spec.specs.Basics.{Text}
 use Rattle.spec.specs.Scopes.{ScopeKind, definitions, with_expr}
 use Rattle.spec.specs.Answer.{last_with, defined_in}
 use Rattle.kept.specs.Walks.{names_entered}

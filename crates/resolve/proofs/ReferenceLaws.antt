@@ -1,13 +1,12 @@
 -- Writing the kept references of a name into a buffer. Assumes nothing.
 use mathlib.Core.Path.{◌≡◌, refl, sym, ap, ◌∙◌}
 use mathlib.Core.List.{List, [], ◌∷◌}
-use mathlib.Core.Option.{Option, none, some}
+use mathlib.Core.Option.{none, some}
 use Prim.Native.Nat.{ℕ, zero, suc, ◌+◌, ◌*◌, ◌≤◌, ◌<◌}
 use native.Mathlib.Omega.{arith}
 use lib.ListN.{length, drop, get_elem?, drop_of_length-le}
 use Rattle.words.specs.Words.{set_word}
 use Rattle.words.proofs.WordLaws.{length_set_word}
-use Rattle.module.specs.declared.ids.ExprId.{ExprId}
 use Rattle.module.specs.declared.ids.MaybeExpr.{MaybeExpr}
 use Rattle.module.specs.declared.ids.MaybeExpr.TheVariants.{Expr as Is, Absent}
 use Rattle.module.specs.Ids.{expr_of}

@@ -3,7 +3,7 @@ use mathlib.Core.Path.{◌≡◌, refl, sym, ap, ◌∙◌}
 use mathlib.Core.Bool.{true, false}
 use mathlib.Core.List.{List, [], ◌∷◌, ◌++◌}
 use mathlib.Core.Option.{none, some}
-use Prim.Native.Nat.{ℕ, suc, ◌+◌, ◌-◌, ◌<◌}
+use Prim.Native.Nat.{ℕ, suc, ◌-◌, ◌<◌}
 use Rattle.spec.specs.Scopes.{ScopeKind, definitions, with_expr, Scope}
 use Rattle.spec.specs.Answer.{scope_at, chain_to, chain, if_with, withs_of}
 use Rattle.module.specs.declared.ids.ScopeId.{ScopeId}

@@ -1,7 +1,8 @@
 -- One name of a scope, held against a text.
+use Rattle.std.specs.Prelude.{if◌then◌else◌}
 use Rattle.std.proofs.Math.Option.{Option, none, some}
 use Rattle.words.specs.Equality.{equalb}
-use Rattle.spec.specs.Basics.{Text, NameId, if◌then◌else◌}
+use Rattle.spec.specs.Basics.{Text, NameId}
 
 -- a name, where it has the text
 unfoldable pub only_with : (NameId → Text) → Text → Option NameId → Option NameId

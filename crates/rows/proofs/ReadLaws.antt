@@ -45,25 +45,25 @@ pub missing_read : (r : Row) → r.sort ≤ 1 → Reads r expr.Missing
 unfolding expr_of expr_with ValidExpr
 missing_read r h = record { valid = tt; same = λ s is. rw (le-leb r.sort 1 h) }
 
-module _ (r : Row) (v : ℕ) (is_IsWide : v ≡ wide r.a r.b) where
+module _ (r : Row) (v : ℕ) (is_wide : v ≡ wide r.a r.b) where
   module _ (sort : r.sort ≡ 4) where
     pub float_read : (x : Float) → v ≤ 9218868437227405312 → float_bits x ≡ v → Reads r (expr.Literal (code.Float x))
     unfolding expr_of expr_with literal_of float_or ValidExpr Valid Unsigned
-    float_read x h e = record { valid = omega arith; same = λ s is. rw (sort, ← is_IsWide, le-leb v 9218868437227405312 h, e) }
+    float_read x h e = record { valid = omega arith; same = λ s is. rw (sort, ← is_wide, le-leb v 9218868437227405312 h, e) }
 
     pub float_unread : 9218868437227405312 < v → Reads r expr.Missing
     unfolding expr_of expr_with float_or ValidExpr
-    float_unread h = record { valid = tt; same = λ s is. rw (sort, ← is_IsWide, lt-leb v 9218868437227405312 h) }
+    float_unread h = record { valid = tt; same = λ s is. rw (sort, ← is_wide, lt-leb v 9218868437227405312 h) }
 
   module _ (sort : r.sort ≡ 5) where
     -- the code has the integer by its bits
     pub integer_read : (n m : ℤ) → v ≤ 9223372036854775807 → nat_of n ≡ v → NotNegative n → m ≡ to_z w64 (of_z w64 n) → Reads r (expr.Literal (code.Integer m))
     unfolding expr_of expr_with literal_of integer_or ValidExpr Valid
-    integer_read n m h e p q = rw (q, integer_back n p) (record { valid = p; same = λ s is. rw (sort, ← is_IsWide, le-leb v 9223372036854775807 h, e) })
+    integer_read n m h e p q = rw (q, integer_back n p) (record { valid = p; same = λ s is. rw (sort, ← is_wide, le-leb v 9223372036854775807 h, e) })
 
     pub integer_unread : 9223372036854775807 < v → Reads r expr.Missing
     unfolding expr_of expr_with integer_or ValidExpr
-    integer_unread h = record { valid = tt; same = λ s is. rw (sort, ← is_IsWide, lt-leb v 9223372036854775807 h) }
+    integer_unread h = record { valid = tt; same = λ s is. rw (sort, ← is_wide, lt-leb v 9223372036854775807 h) }
 
 -- ---- the arm that takes the rest
 -- n is none of the m numbers from k on, as the code's match says it

@@ -1,4 +1,5 @@
 -- The last row that has a pointer. Assumes nothing.
+use Rattle.std.specs.Prelude.{if◌then◌else◌}
 use mathlib.Core.Path.{◌≡◌, refl, sym, ap, ◌∙◌}
 use mathlib.Core.Bool.{Bool, true, false}
 use mathlib.Core.List.{List, [], ◌∷◌, ◌++◌}
@@ -8,7 +9,6 @@ use native.Mathlib.Omega.{arith}
 use lib.ListN.{length}
 use borrow.Author.Tests.{ne_eqb}
 use Rattle.words.specs.Words.{word}
-use Rattle.spec.specs.Basics.{if◌then◌else◌}
 use Rattle.spec.specs.Module.{Pointer, Made, Name, same_pointer, points_to, last_at, expr_pointers, name_pointers, expr_for_node, name_for_node}
 use Rattle.spec.specs.Lower.{module_of}
 use Rattle.layout.specs.Layout.{expr_limit, name_limit, expr_row, pointer_row, expr_count, name_count, exprs_at, expr_pointers_at, name_pointers_at}

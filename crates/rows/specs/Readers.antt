@@ -1,7 +1,7 @@
 -- What is read of a module in a store, and what a number out of range gives.
-use Rattle.std.specs.Prelude.{◌≡◌, List, [], ℕ, ◌+◌, ◌≤◌, length, get_or, ltb}
+use Rattle.std.specs.Prelude.{◌≡◌, List, [], ℕ, ◌+◌, ◌≤◌, length, get_or, ltb, if◌then◌else◌}
 use Rattle.std.proofs.Math.Option.{Option, none, some}
-use Rattle.spec.specs.Basics.{ExprId, if◌then◌else◌}
+use Rattle.spec.specs.Basics.{ExprId}
 use Rattle.spec.specs.Module.{Pointer, DuplicateKey, Module}
 use Rattle.module.specs.Ids.{pointer_of}
 use Rattle.rows.specs.declared.read_exprs.MaybePointer.{MaybePointer}

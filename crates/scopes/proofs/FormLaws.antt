@@ -11,7 +11,7 @@ use borrow.Author.Tests.{ltb-true, ltb-false, lt-ltb}
 use Rattle.words.specs.Words.{word}
 use Rattle.spec.specs.Basics.{ExprId, ScopeId}
 use Rattle.spec.specs.Steps.{◌>>=◌, when, each_of}
-use Rattle.spec.specs.Module.{Expr, missing, with_in, Made, Module}
+use Rattle.spec.specs.Module.{missing, with_in, Made, Module}
 use Rattle.spec.specs.Lower.{module_of}
 use Rattle.spec.specs.Scopes.{Walk, place_expr, open_scope, with_expr, one_or_none, Form, function, with_body, bound, through, form, made_at, expr_at, traverse_bindings, traverse_lambda, traverse_with, traverse_as, traverse_expr}
 use Rattle.spec.proofs.sound.Ordered.{Ordered}

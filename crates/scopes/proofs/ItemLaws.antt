@@ -1,5 +1,6 @@
 -- The items of an expression, one by one: a walk leaves them as they were, and what they hand on and enter is put
 -- together from what each of them does. Assumes nothing.
+use Rattle.std.specs.Prelude.{if◌then◌else◌}
 use mathlib.Core.Path.{◌≡◌, refl, sym, ap, ◌∙◌}
 use mathlib.Core.Bool.{Bool, true, false}
 use mathlib.Core.List.{List, [], ◌∷◌, ◌++◌, append_assoc}
@@ -11,7 +12,7 @@ use lib.Seq.{take-suc}
 use lib.Dec.{ltb}
 use borrow.Author.Tests.{ltb-true}
 use Rattle.words.specs.Words.{word}
-use Rattle.spec.specs.Basics.{ExprId, NameId, if◌then◌else◌}
+use Rattle.spec.specs.Basics.{ExprId, NameId}
 use Rattle.spec.specs.Module.{Module}
 use Rattle.spec.specs.Scopes.{one_or_none, field_names, field_defaults, if_inherited, inherited, if_plain, plain_values, keys_and_values, interpolated, is_definition, name_at, defined}
 use Rattle.layout.specs.Layout.{expr_limit, expr_count, exprs_at, expr_pointers_at, items_at, names_at}

@@ -8,7 +8,7 @@ use native.Mathlib.Omega.{arith}
 use lib.ListN.{length, length-append}
 use borrow.Author.Tests.{lt-ltb, le-leb}
 use Rattle.words.specs.Words.{word}
-use Rattle.spec.specs.Basics.{ExprId, NameId, ScopeId, if◌then◌else◌}
+use Rattle.spec.specs.Basics.{ExprId, NameId, ScopeId}
 use Rattle.spec.specs.Steps.{give}
 use Rattle.spec.specs.Module.{Module}
 use Rattle.spec.specs.Scopes.{ScopeKind, definitions, with_expr, Scopes, Walk, place_expr, open_scope, open_for}

@@ -1,4 +1,5 @@
 -- Laws of decimal numbers. Assumes nothing.
+use Rattle.std.specs.Prelude.{if◌then◌else◌}
 use mathlib.Core.Path.{◌≡◌, refl, sym, ap, ◌∙◌}
 use mathlib.Core.Bool.{Bool, true, false, ◌&&◌, not}
 use mathlib.Core.List.{List, [], ◌∷◌}
@@ -10,7 +11,7 @@ use lib.Dec.{eqb}
 use borrow.Author.Tests.{le-leb, lt-leb, eq-eqb, ne_eqb}
 use Rattle.words.specs.Runs.{run}
 use Rattle.words.proofs.RunLaws.{run_cons, run_none, length_run}
-use Rattle.spec.specs.Basics.{Text, if◌then◌else◌}
+use Rattle.spec.specs.Basics.{Text}
 use Rattle.spec.specs.Sheet.{is_digit, all_digits, value_from, decimal}
 use Rattle.sheet.specs.Decimals.{capped, capped_from}
 

@@ -1,4 +1,5 @@
 -- Laws of lists of kids. Assumes nothing.
+use Rattle.std.specs.Prelude.{if◌then◌else◌}
 use mathlib.Core.Path.{◌≡◌, refl, sym, ap, ◌∙◌}
 use mathlib.Core.Bool.{Bool, true, false, ◌&&◌, and-true, and-false, and_assoc}
 use mathlib.Core.List.{List, [], ◌∷◌, ◌++◌, map, append-nil, append_assoc}
@@ -13,7 +14,7 @@ use lib.Dec.{eqb, ltb}
 use borrow.Author.Tests.{eq-eqb, ne_eqb, lt-ltb, le-ltb, ltb-true}
 use Rattle.words.specs.Runs.{run}
 use Rattle.words.proofs.RunLaws.{length_run, run_snoc, run_none}
-use Rattle.spec.specs.Basics.{Text, NodeId, if◌then◌else◌, maybe}
+use Rattle.spec.specs.Basics.{Text, NodeId, maybe}
 use Rattle.spec.specs.Sheet.{kid, cut_before, cut_at_commas, all_kids, kid_list, all_below, decimal}
 use Rattle.sheet.specs.Decimals.{capped, got_decimal}
 use Rattle.sheet.specs.Verdicts.{verdict_of}

@@ -1,5 +1,6 @@
 -- The rules of the kinds by one match each: a test that is computed over the whole table, and a law that turns it into
 -- the rule at a number. Assumes nothing.
+use Rattle.std.specs.Prelude.{if◌then◌else◌}
 use mathlib.Core.Path.{◌≡◌, refl, sym, ap, subst, ◌∙◌}
 use mathlib.Core.Bool.{Bool, true, ◌&&◌, ◌||◌}
 use mathlib.Core.Logic.{◌⊎◌, ⊎_elim}
@@ -13,7 +14,6 @@ use lib.Dec.{T, eqb, eqb→eq}
 use lib.ListN.{length, get_or, get_or-eq_default}
 use borrow.Author.Tests.{ne_eqb}
 use mir.Facts.{and_yes}
-use Rattle.spec.specs.Basics.{if◌then◌else◌}
 use Rattle.spec.specs.Kinds.{Kind, TextRule, no_text, any_text, digits, float, named, kinds, kind_of, places}
 
 -- ---- a test at each entry of a list of kinds and its place, counted from i

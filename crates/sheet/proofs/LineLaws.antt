@@ -1,4 +1,5 @@
 -- Laws of a line: its key, its end, and what a field makes of its value. Assumes nothing.
+use Rattle.std.specs.Prelude.{if◌then◌else◌}
 use mathlib.Core.Path.{◌≡◌, refl, sym, ap, subst⁻¹, ◌∙◌}
 use mathlib.Core.Bool.{Bool, true, false, ◌&&◌}
 use mathlib.Core.List.{List, [], ◌∷◌, ◌++◌, append-nil, append_assoc}
@@ -14,7 +15,7 @@ use borrow.Author.Tests.{ne_eqb}
 use Rattle.words.specs.Runs.{run}
 use Rattle.words.specs.Equality.{equalb}
 use Rattle.words.proofs.RunLaws.{length_run, run_snoc, run_none, run_whole}
-use Rattle.spec.specs.Basics.{Text, bytes, if◌then◌else◌, maybe}
+use Rattle.spec.specs.Basics.{Text, bytes, maybe}
 use Rattle.spec.specs.Sheet.{Fault, malformed, Got, got, bad, next, after, up_to_end, line, field, number}
 use Rattle.spec.proofs.reading.Places.{after_rest, end_inside}
 use Rattle.sheet.specs.Keyed.{line_of, field_of, number_of}

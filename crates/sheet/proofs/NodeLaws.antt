@@ -1,14 +1,15 @@
 -- Laws of a node's reader, one for each way out. Assumes nothing.
-use mathlib.Core.Path.{◌≡◌, refl, sym, ◌∙◌}
+use Rattle.std.specs.Prelude.{if◌then◌else◌}
+use mathlib.Core.Path.{◌≡◌, sym, ◌∙◌}
 use mathlib.Core.Bool.{Bool, true, false}
 use mathlib.Core.List.{List}
 use mathlib.Core.Option.{Option}
-use Prim.Native.Nat.{ℕ, ◌+◌, ◌-◌, ◌≤◌, ◌<◌}
+use Prim.Native.Nat.{ℕ, ◌+◌, ◌≤◌, ◌<◌}
 use Prim.Native.String.{String}
 use lib.ListN.{length}
 use lib.Dec.{eqb}
 use borrow.Author.Tests.{eq-eqb, ne_eqb}
-use Rattle.spec.specs.Basics.{Text, bytes, if◌then◌else◌}
+use Rattle.spec.specs.Basics.{Text, bytes}
 use Rattle.spec.specs.Kinds.{kind_of}
 use Rattle.spec.specs.Sheet as spec
 use Rattle.spec.specs.Sheet.{Got, got, next, ◌>>=◌, give, wrong_kind, wrong_range, wrong_flag, wrong_kid, wrong_text, line, field, number, kid_list, all_below, hex, text_fits, node}

@@ -1,7 +1,7 @@
 -- Numbers whose value stops at 4,294,967,296.
 use Rattle.std.proofs.Math.Option.{Option, none, some}
-use Rattle.std.specs.Prelude.{[], ◌∷◌, ℕ, ◌+◌, ◌-◌, ◌*◌, min}
-use Rattle.spec.specs.Basics.{Text, if◌then◌else◌}
+use Rattle.std.specs.Prelude.{[], ◌∷◌, ℕ, ◌+◌, ◌-◌, ◌*◌, min, if◌then◌else◌}
+use Rattle.spec.specs.Basics.{Text}
 use Rattle.spec.specs.Sheet.{is_digit}
 use Rattle.sheet.specs.declared.decimals.Spelled.{Spelled}
 use Rattle.sheet.specs.declared.decimals.Spelled.TheVariants.{Number, Malformed}

@@ -1,8 +1,8 @@
 -- The readers of a line with the key as bytes, as the code has it: `line key` computes to `line_of (bytes key)`, and so
 -- for the others (proofs/LineLaws.antt, `number_is`).
-use Rattle.std.specs.Prelude.{Bool, ◌&&◌, ℕ, ◌+◌, length, drop, leb}
+use Rattle.std.specs.Prelude.{Bool, ◌&&◌, ℕ, ◌+◌, length, drop, leb, if◌then◌else◌}
 use Rattle.std.proofs.Math.Option.{Option}
-use Rattle.spec.specs.Basics.{Text, if◌then◌else◌, maybe}
+use Rattle.spec.specs.Basics.{Text, maybe}
 use Rattle.spec.specs.Sheet.{Fault, malformed, got, bad, Reader, next, after, up_to_end, decimal}
 
 unfoldable pub line_of : Text → Reader Text

@@ -1,9 +1,9 @@
 -- What the answers about kids say.
-use Rattle.std.specs.Prelude.{Bool, false, ◌&&◌, ◌≡◌, List, [], ◌∷◌, map, ℕ, ◌+◌, ◌-◌, ◌≤◌, ◌<◌, min, eqb, ltb}
+use Rattle.std.specs.Prelude.{Bool, false, ◌&&◌, ◌≡◌, List, [], ◌∷◌, map, ℕ, ◌+◌, ◌-◌, ◌≤◌, ◌<◌, min, eqb, ltb, if◌then◌else◌}
 use Rattle.std.proofs.Math.Option
 use Rattle.std.proofs.Math.Option.{Option, none, some}
 use Rattle.words.specs.Runs.{run}
-use Rattle.spec.specs.Basics.{Text, NodeId, if◌then◌else◌, maybe}
+use Rattle.spec.specs.Basics.{Text, NodeId, maybe}
 use Rattle.spec.specs.Sheet.{cut_at_commas, kid_list, all_below}
 use Rattle.sheet.specs.Verdicts.{verdict_of}
 use Rattle.sheet.specs.declared.kids.Kid.{Kid}

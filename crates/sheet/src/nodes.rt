@@ -1,6 +1,5 @@
 // A node: six lines.
-ghost use Rattle.std.specs.Prelude.{◌≡◌, ◌≤◌, length, eqb};
-ghost use Rattle.spec.specs.Basics.{if◌then◌else◌};
+ghost use Rattle.std.specs.Prelude.{◌≡◌, ◌≤◌, length, eqb, if◌then◌else◌};
 ghost use Rattle.spec.specs.Sheet.{number, wrong_kind, node};
 ghost use Rattle.sheet.specs.Numbers.{got_number};
 ghost use Rattle.sheet.specs.Nodes.{node_rest, got_node, FormedNode};

@@ -1,8 +1,8 @@
 -- What fits goes on to fit where its words are as they were, or others that fit have come in their place. Assumes
 -- nothing.
-use mathlib.Core.Path.{◌≡◌, refl, sym, ap, ◌∙◌}
+use mathlib.Core.Path.{◌≡◌, refl, ◌∙◌}
 use mathlib.Core.Bool.{Bool, true, false, ◌&&◌, ◌||◌}
-use mathlib.Core.List.{List, [], ◌∷◌}
+use mathlib.Core.List.{List}
 use mathlib.Mathlib.Data.Bool.Basic.{and_elim_left, and_elim_right, and_intro}
 use Prim.Native.Nat.{ℕ, ◌+◌, ◌*◌, ◌≤◌, ◌<◌}
 use native.Mathlib.Omega.{arith}
@@ -13,7 +13,7 @@ use Rattle.words.specs.Words.{word}
 use Rattle.spec.specs.Basics.{ExprId, NameId, ScopeId}
 use Rattle.layout.specs.Layout.{expr_limit, item_limit, name_limit, reference_limit, expr_row, item_row, name_row, diagnostic_row, use_row, scope_row, expr_count, name_count, diagnostic_count, scope_count, texts_place, exprs_at, items_at, names_at, diagnostics_at, uses_at, scopes_at, entered_at, firsts_at, references_at, waiting_at, texts_at}
 use Rattle.layout.specs.Changes.{Range, Wrote, Still}
-use Rattle.layout.specs.Exprs.{wide, first_item, sort_of}
+use Rattle.layout.specs.Exprs.{first_item, sort_of}
 use Rattle.layout.specs.Keeps.{first_entered, first_reference}
 use Rattle.layout.proofs.Frames.{Same, apart, same_on, number_kept, word_still}
 use Rattle.texts.specs.Fits.{text_fits}

@@ -1,6 +1,6 @@
 -- Counts, and what they are held against: one law for each way out of the code. Assumes nothing.
 use mathlib.Core.Path.{◌≡◌}
-use mathlib.Core.Bool.{Bool, true, false, ◌&&◌, ◌||◌}
+use mathlib.Core.Bool.{true, false, ◌&&◌, ◌||◌}
 use mathlib.Core.List.{List}
 use mathlib.Mathlib.Data.Bool.Basic.{and_elim_left, and_elim_right}
 use Prim.Native.Nat.{ℕ, ◌+◌, ◌*◌, ◌≤◌, ◌<◌}

@@ -1,8 +1,8 @@
 -- What the bytes of a module have to be beside what they say. Decoding forgets it: a count above its limit, a sort
 -- above 28, a tag that does not belong to its sort, a kind above 4, a text past the bytes in use.
-use Rattle.std.specs.Prelude.{◌≡◌, Bool, true, ◌&&◌, ◌||◌, not, List, ℕ, ◌+◌, ◌*◌, ◌≤◌, ◌<◌, eqb, leb}
+use Rattle.std.specs.Prelude.{◌≡◌, Bool, true, ◌&&◌, ◌||◌, not, List, ℕ, ◌+◌, ◌*◌, ◌≤◌, ◌<◌, eqb, leb, if◌then◌else◌}
 use Rattle.words.specs.Words.{word}
-use Rattle.spec.specs.Basics.{ExprId, NameId, if◌then◌else◌}
+use Rattle.spec.specs.Basics.{ExprId, NameId}
 use Rattle.layout.specs.Layout.{expr_limit, item_limit, name_limit, diagnostic_limit, scope_limit, expr_row, item_row, diagnostic_row, use_row, expr_count, name_count, diagnostic_count, lost_count, scope_count, exprs_at, items_at, diagnostics_at, uses_at}
 use Rattle.layout.specs.Exprs.{wide, first_item, sort_of}
 use Rattle.texts.specs.Fits.{text_fits}

@@ -1,9 +1,9 @@
 -- docs/RULES.md, "The condition of a store": "22 store unsound: a count over its limit, a number outside the list that
 -- docs/STORE.md gives for it, a parent scope not numbered below its child, or a child expression not numbered below its
 -- parent." Of any bytes, by the words of the rows in use.
-use Rattle.std.specs.Prelude.{Bool, true, false, ◌&&◌, ◌||◌, not, List, ℕ, zero, suc, ◌+◌, ◌*◌, length, eqb, leb, ltb}
+use Rattle.std.specs.Prelude.{Bool, true, false, ◌&&◌, ◌||◌, not, List, ℕ, zero, suc, ◌+◌, ◌*◌, length, eqb, leb, ltb, if◌then◌else◌}
 use Rattle.words.specs.Words.{word}
-use Rattle.spec.specs.Basics.{ExprId, NameId, ScopeId, if◌then◌else◌}
+use Rattle.spec.specs.Basics.{ExprId, NameId, ScopeId}
 use Rattle.spec.specs.Calls.{Condition}
 use Rattle.layout.specs.Layout.{expr_limit, item_limit, name_limit, diagnostic_limit, scope_limit, reference_limit, room_limit, loaded_text_limit, expr_row, item_row, name_row, diagnostic_row, use_row, scope_row, expr_count, name_count, diagnostic_count, lost_count, entry_place, scope_count, spent_place, texts_place, exprs_at, items_at, names_at, diagnostics_at, uses_at, scopes_at, entered_at, references_at, store_bytes}
 use Rattle.layout.specs.Exprs.{wide, first_item, sort_of}

@@ -1,6 +1,5 @@
 -- The condition of a store as the code tells it, and the refusal that it is: 21 comes before 22, and 22 before 23.
-use Rattle.std.specs.Prelude.{ℕ}
-use Rattle.spec.specs.Basics.{if◌then◌else◌}
+use Rattle.std.specs.Prelude.{ℕ, if◌then◌else◌}
 use Rattle.spec.specs.Calls as Calls
 use Rattle.soundness.specs.declared.conditions.Condition.{Condition}
 use Rattle.soundness.specs.declared.conditions.Condition.TheVariants.{Fit, Short, Unsound, Unloaded}

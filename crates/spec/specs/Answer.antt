@@ -1,9 +1,9 @@
 -- docs/RULES.md, "Scopes and answers" ("Answers", "Kept answers and references"): what a name means where it is used,
 -- written from the Nix Reference Manual. This page is what demand 2 is proved against.
-use Rattle.std.specs.Prelude.{Bool, true, false, List, [], ◌∷◌, ◌++◌, ℕ, zero, suc, get_or, eqb}
+use Rattle.std.specs.Prelude.{Bool, false, List, [], ◌∷◌, ◌++◌, ℕ, zero, suc, get_or, eqb, if◌then◌else◌}
 use Rattle.std.proofs.Math.Option.{Option, none, some}
 use Rattle.words.specs.Equality.{equalb}
-use Rattle.spec.specs.Basics.{Text, ExprId, NameId, ScopeId, bytes, if◌then◌else◌, maybe}
+use Rattle.spec.specs.Basics.{Text, ExprId, NameId, ScopeId, bytes, maybe}
 use Rattle.spec.specs.Module.{Expr, missing, apply, if_then_else, literal, lambda, let_in, list, bin_op, attr_set, unary_op, reference, select, has_attr, with_in, assert_in, string_interpolation, path_interpolation, Made, Module}
 use Rattle.spec.specs.Scopes.{ScopeKind, definitions, with_expr, Scope, Scopes, expr_at, name_at}
 

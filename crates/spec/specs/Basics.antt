@@ -27,10 +27,6 @@ abbrev pub bytes : String → Text
 bytes ε = []
 bytes (c ▹ s) = code c ∷ bytes s
 
-infixr 3 if◌then◌else◌
-abbrev pub if◌then◌else◌ : {A : Type 0} → Bool → A → A → A
-if◌then◌else◌ b x y = pick b x y
-
 -- what a function makes of a value that is there, or else something
 abbrev pub maybe : {A B : Type 0} → Option A → B → (A → B) → B
 maybe none b f = b

@@ -1,9 +1,9 @@
 -- docs/RULES.md, "Refused because of the state", and 8 ("A text refused"): asking about a Reference or a name, changing
 -- the text of either, and what each call comes to.
-use Rattle.std.specs.Prelude.{Bool, true, false, ◌||◌, ◌&&◌, not, List, [], ◌∷◌, ℕ, ◌+◌, ◌*◌, length, set, ltb, leb}
+use Rattle.std.specs.Prelude.{Bool, true, false, ◌||◌, ◌&&◌, not, List, [], ◌∷◌, ℕ, ◌+◌, ◌*◌, length, set, ltb, leb, if◌then◌else◌}
 use Rattle.std.proofs.Math.Option.{Option, none, some}
 use Rattle.words.specs.Equality.{equalb}
-use Rattle.spec.specs.Basics.{Text, ExprId, NameId, if◌then◌else◌}
+use Rattle.spec.specs.Basics.{Text, ExprId, NameId}
 use Rattle.spec.specs.Module.{reference, Module}
 use Rattle.spec.specs.Sheet.{Judged}
 use Rattle.spec.specs.Tree.{judge}

@@ -1,10 +1,10 @@
 -- docs/RULES.md, "Kept answers and references": what a store keeps, the module and its scopes, and beside them every
 -- Reference's answer and every name's references, so that asking need not search. What a load leaves, and what a call
 -- makes of a store, whoever made it.
-use Rattle.std.specs.Prelude.{List, [], ◌∷◌, ℕ, suc, get_or}
+use Rattle.std.specs.Prelude.{List, [], ◌∷◌, ℕ, suc, get_or, if◌then◌else◌}
 use Rattle.std.proofs.Math.Option.{Option, none}
 use Rattle.words.specs.Equality.{equalb}
-use Rattle.spec.specs.Basics.{Text, ExprId, NameId, if◌then◌else◌}
+use Rattle.spec.specs.Basics.{Text, ExprId, NameId}
 use Rattle.spec.specs.Module.{Module}
 use Rattle.spec.specs.Sheet.{Node}
 use Rattle.spec.specs.Lower.{lower_module}

@@ -1,8 +1,8 @@
 -- docs/RULES.md, "Lowering" ("Keys"): a node and its parts, and which key an attribute is. The functions of
 -- ast_utils.rs, under their names.
-use Rattle.std.specs.Prelude.{true, false, List, [], ◌∷◌, ℕ, zero, suc, get_or, eqb}
+use Rattle.std.specs.Prelude.{true, false, List, [], ◌∷◌, ℕ, zero, suc, get_or, eqb, if◌then◌else◌}
 use Rattle.std.proofs.Math.Option.{Option, none, some}
-use Rattle.spec.specs.Basics.{Text, NodeId, if◌then◌else◌, maybe}
+use Rattle.spec.specs.Basics.{Text, NodeId, maybe}
 use Rattle.spec.specs.Module.{Pointer}
 use Rattle.spec.specs.Sheet.{Node}
 use Rattle.spec.specs.Tree.{node_at}

@@ -1,7 +1,7 @@
 -- docs/RULES.md, "Lowering" ("From nodes to expressions"): `impl LowerCtx` of lower.rs, in its order.
-use Rattle.std.specs.Prelude.{Bool, false, ◌||◌, List, [], ◌∷◌, ℕ, zero, suc, eqb, leb}
+use Rattle.std.specs.Prelude.{Bool, false, ◌||◌, List, [], ◌∷◌, ℕ, zero, suc, eqb, leb, if◌then◌else◌}
 use Rattle.std.proofs.Math.Option.{Option, none, some}
-use Rattle.spec.specs.Basics.{Text, NodeId, ExprId, NameId, if◌then◌else◌}
+use Rattle.spec.specs.Basics.{Text, NodeId, ExprId, NameId}
 use Rattle.spec.specs.Keys.{kind, flag, text, pointer, kid, kid_of, items, items_after, get_str_literal}
 use Rattle.spec.specs.Merge.{lower_opt, attributes, merge_entries, desugar}
 use Rattle.spec.specs.Module.{float, integer, string, path, uri, InterpolPart, literal_part, interpol, Pat, Expr, missing, apply, if_then_else, literal, lambda, let_in, list, bin_op, attr_set, unary_op, reference, select, has_attr, with_in, assert_in, string_interpolation, path_interpolation, NameKind, LetIn, PlainAttrset, RecAttrset, Param, PatField, Module}

@@ -1,12 +1,12 @@
 -- docs/RULES.md, "Lowering" ("Merging", "Inherited attributes", "Finishing"): how the entries of a set or a let are
 -- merged. `impl MergingSet` of lower.rs, in its order.
-use Rattle.std.specs.Prelude.{Bool, false, ◌&&◌, List, [], ◌∷◌, ℕ, zero, suc, length, get_or, eqb}
+use Rattle.std.specs.Prelude.{Bool, false, ◌&&◌, List, [], ◌∷◌, ℕ, zero, suc, length, get_or, eqb, if◌then◌else◌}
 use Rattle.std.proofs.Math.Option.{Option, none, some}
 use Rattle.words.specs.Equality.{equalb}
 use Rattle.words.specs.Order.{order}
 use Rattle.words.specs.declared.ordering.Order.{Order}
 use Rattle.words.specs.declared.ordering.Order.TheVariants.{Less, Equal, Greater}
-use Rattle.spec.specs.Basics.{Text, NodeId, ExprId, NameId, if◌then◌else◌}
+use Rattle.spec.specs.Basics.{Text, NodeId, ExprId, NameId}
 use Rattle.spec.specs.Keys.{AttrKind, static_key, dynamic_key, kind, pointer, kid, items, items_after, attr_kind}
 use Rattle.spec.specs.Module.{Pointer, string, BindingValue, expr, inherit, inherit_from, Bindings, attr_set, literal, select, reference, NameKind, PlainAttrset}
 use Rattle.spec.specs.Sheet.{Node}

@@ -1,7 +1,7 @@
 -- docs/RULES.md, "Lowering" ("The module"): what a module is. Types of lib.rs, under their names there.
-use Rattle.std.specs.Prelude.{Bool, false, ◌&&◌, List, [], ◌∷◌, ℕ, suc, eqb}
+use Rattle.std.specs.Prelude.{Bool, false, ◌&&◌, List, [], ◌∷◌, ℕ, suc, eqb, if◌then◌else◌}
 use Rattle.std.proofs.Math.Option.{Option, none, some}
-use Rattle.spec.specs.Basics.{Text, ExprId, NameId, if◌then◌else◌}
+use Rattle.spec.specs.Basics.{Text, ExprId, NameId}
 
 -- "The node's pointer is kind, from, to; equal triples are equal pointers."
 pub record Pointer : Type 0 where

@@ -1,8 +1,8 @@
 -- docs/RULES.md, "Scopes and answers" ("Scopes", "Held names"): the scopes of a module, numbered as `ModuleScopes::new`
 -- allocates them, with the names entered in each, and the scope of every expression that is walked.
-use Rattle.std.specs.Prelude.{Bool, true, false, ◌||◌, List, [], ◌∷◌, ◌++◌, ℕ, zero, suc, length, get_or, set, replicate, eqb}
+use Rattle.std.specs.Prelude.{Bool, true, false, ◌||◌, List, [], ◌∷◌, ◌++◌, ℕ, zero, suc, length, get_or, set, replicate, eqb, if◌then◌else◌}
 use Rattle.std.proofs.Math.Option.{Option, none, some}
-use Rattle.spec.specs.Basics.{ExprId, NameId, ScopeId, if◌then◌else◌}
+use Rattle.spec.specs.Basics.{ExprId, NameId, ScopeId}
 use Rattle.spec.specs.Steps.{Step, ◌>>=◌, give, each_of}
 use Rattle.spec.specs.Module.{InterpolPart, literal_part, interpol, BindingValue, expr, inherit, inherit_from, Bindings, Pat, Expr, missing, apply, if_then_else, literal, lambda, let_in, list, bin_op, attr_set, unary_op, reference, select, has_attr, with_in, assert_in, string_interpolation, path_interpolation, Made, NameKind, LetIn, PlainAttrset, RecAttrset, Param, PatField, Name, Module}
 

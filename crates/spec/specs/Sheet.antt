@@ -1,10 +1,10 @@
 -- docs/RULES.md, "Entry: the sheet", and refusals 1 to 3 and 31 to 33 ("Lines refused"): from bytes to nodes.
 -- A sheet (document 01's term) is lines that end in byte 10: first `nodes=`, then six for each node.
-use Rattle.std.specs.Prelude.{Bool, true, false, ◌&&◌, not, List, [], ◌∷◌, ℕ, zero, suc, ◌+◌, ◌-◌, ◌*◌, length, drop, ltb, leb, eqb}
+use Rattle.std.specs.Prelude.{Bool, true, false, ◌&&◌, not, List, [], ◌∷◌, ℕ, zero, suc, ◌+◌, ◌-◌, ◌*◌, length, drop, ltb, leb, eqb, if◌then◌else◌}
 use Rattle.std.proofs.Math.Option.{Option, none, some, map}
 use Prim.Native.String.{String}
 use Rattle.spec.specs.Kinds.{TextRule, no_text, any_text, digits, float, named, kind_of}
-use Rattle.spec.specs.Basics.{Text, NodeId, bytes, if◌then◌else◌, maybe}
+use Rattle.spec.specs.Basics.{Text, NodeId, bytes, maybe}
 
 pub record Node : Type 0 where
   pub kind : ℕ

@@ -1,7 +1,7 @@
 -- docs/RULES.md, "The walk": refusals 4 to 7, by a depth-first walk from node 0, kids in order. The first met decides.
-use Rattle.std.specs.Prelude.{Bool, true, false, ◌&&◌, List, [], ◌∷◌, ℕ, zero, suc, ◌+◌, length, get_or, eqb, leb}
+use Rattle.std.specs.Prelude.{Bool, true, false, ◌&&◌, List, [], ◌∷◌, ℕ, zero, suc, ◌+◌, length, get_or, eqb, leb, if◌then◌else◌}
 use Rattle.std.proofs.Math.Option.{Option, none, some}
-use Rattle.spec.specs.Basics.{NodeId, if◌then◌else◌}
+use Rattle.spec.specs.Basics.{NodeId}
 use Rattle.spec.specs.Kinds.{Slot, takes, kind_of}
 use Rattle.spec.specs.Sheet.{Node, Judged, accepted, refused, read_sheet}
 

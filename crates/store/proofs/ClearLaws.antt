@@ -7,10 +7,9 @@ use native.Mathlib.Omega.{arith}
 use lib.ListN.{length, get_or, drop}
 use Rattle.words.specs.Words.{word, set_word}
 use Rattle.words.proofs.WordLaws.{length_set_word, word_set_word_same, word_set_word_other}
-use Rattle.spec.specs.State.{empty}
 use Rattle.layout.specs.Layout.{waiting_limit, expr_count, scope_count, entry_count, exprs_at, scopes_at, firsts_at, sheet_at, Long}
 use Rattle.layout.specs.Rows.{cap, rows_to, set_all}
-use Rattle.layout.specs.Changes.{Outside, Wrote}
+use Rattle.layout.specs.Changes.{Outside}
 use Rattle.layout.specs.Exprs.{first_item}
 use Rattle.layout.specs.States.{exprs_of, names_of, diagnostics_of, lost_of, sets_of, entries_of, state_of, waiting_of, used_of, order_of}
 use Rattle.store.specs.Work.{work_of, no_work, clearing, Fine, NoRows, Cleared}

@@ -1,9 +1,6 @@
 -- Rows of literals. Assumes nothing.
-use mathlib.Core.Path.{◌≡◌, refl, sym, ap, ◌∙◌}
-use mathlib.Core.List.{List}
-use Prim.Native.Nat.{ℕ, ◌+◌, ◌*◌, ◌≤◌}
-use native.Mathlib.Omega.{arith}
-use lib.Dec.{leb}
+use mathlib.Core.Path.{◌≡◌, ap, ◌∙◌}
+use Prim.Native.Nat.{ℕ, ◌+◌, ◌*◌}
 use borrow.Author.Tests.{le-leb}
 use Rattle.module.specs.Literals.{float_bits, nat_of, literal_of, Valid, Unsigned, NotNegative}
 use Rattle.module.specs.declared.literal.Literal.{Literal}

@@ -2,7 +2,7 @@
 -- nothing.
 use mathlib.Core.Path.{◌≡◌, refl, sym, ◌∙◌}
 use mathlib.Core.Bool.{Bool, true, false, ◌&&◌, and-eq-true_iff}
-use mathlib.Core.List.{List, [], ◌∷◌}
+use mathlib.Core.List.{List}
 use Prim.Native.Nat.{ℕ, zero, suc, ◌+◌, ◌*◌, ◌≤◌, ◌<◌}
 use native.Mathlib.Numerals.{add-one}
 use native.Mathlib.Omega.{arith}
@@ -18,7 +18,7 @@ use Rattle.layout.proofs.RowLaws.{cap_lim}
 use Rattle.layout.proofs.Frames.{Same, apart, same_on, number_kept, word_still}
 use Rattle.texts.specs.Fits.{text_fits}
 use Rattle.soundness.specs.Sound.{name_row_fits}
-use Rattle.soundness.specs.Coded.{fields_coded, row_coded, part_coded, item_coded, Coded}
+use Rattle.soundness.specs.Coded.{fields_coded, row_coded, part_coded, item_coded}
 use Rattle.store.specs.Work.{wait_coded, Fine}
 
 -- ---- the parts

@@ -3,15 +3,13 @@ use mathlib.Core.Path.{◌≡◌, refl, sym, ap, ◌∙◌}
 use mathlib.Core.Logic.{◌⊎◌, inl, inr, ⊎_elim}
 use mathlib.Core.Bool.{Bool, true, false, ◌&&◌, and-eq-true_iff}
 use mathlib.Core.List.{List, [], ◌∷◌, ◌++◌}
-use mathlib.Core.Option.{Option, none, some}
 use mathlib.Mathlib.Data.Bool.Basic.{and_intro}
 use Prim.Native.Nat.{ℕ, zero, suc, ◌+◌, ◌-◌, ◌*◌, ◌≤◌, ◌<◌, ◌^◌}
 use native.Mathlib.Omega.{arith}
 use lib.ListN.{length, get_or, take, drop, length-drop, length-take, drop_of_length-le}
 use lib.Seq.{take_all}
-use lib.Dec.{ltb, leb, eqb}
+use lib.Dec.{ltb, leb}
 use borrow.Author.Tests.{lt-ltb, le-ltb, le-leb, lt-leb, ltb-true, ltb-false, leb-true, leb-false}
-use Rattle.words.specs.Order.{pick}
 use Rattle.words.specs.Runs.{run, splice}
 use Rattle.words.specs.Words.{word, set_word}
 use Rattle.words.proofs.RunLaws.{length_splice, length_run}
@@ -19,7 +17,7 @@ use Rattle.words.proofs.WordLaws.{length_set_word, word_set_word_same, word_set_
 use Rattle.spec.proofs.general.BoolLaws.{differ}
 use Rattle.spec.specs.Module.{Pointer, Made}
 use Rattle.spec.specs.Steps.{Step}
-use Rattle.spec.specs.State.{State, state, new_made}
+use Rattle.spec.specs.State.{new_made}
 use Rattle.module.specs.Ids.{pointer_of}
 use Rattle.module.specs.declared.pointer.Pointer as code
 use Rattle.rows.specs.declared.row.Row.{Row}
@@ -27,9 +25,8 @@ use Rattle.rows.specs.declared.row.ItemRow.{ItemRow}
 use Rattle.layout.specs.Layout.{expr_limit, item_limit, waiting_limit, expr_row, pointer_row, item_row, expr_count, waiting_count, exprs_at, expr_pointers_at, items_at, names_at, waiting_at, sets_at, Long}
 use Rattle.layout.specs.Rows.{cap, rows_to, rows_from, set_all}
 use Rattle.layout.specs.Changes.{Range, Outside, Wrote, Still}
-use Rattle.layout.specs.Texts.{text_in}
 use Rattle.layout.specs.Exprs.{Item, child, item_of, item_at, item_in, expr_of, pointer_at, pointer_or, first_item, items_of, sort_of, made_in}
-use Rattle.layout.specs.States.{exprs_of, names_of, diagnostics_of, lost_of, sets_of, entries_of, state_of, waiting_of, used_of, order_of}
+use Rattle.layout.specs.States.{exprs_of, state_of, waiting_of, used_of}
 use Rattle.module.specs.declared.expr.Expr.{Expr}
 use Rattle.store.specs.Codes.{row_made, expr_made, hole_made, sort_for, Says, HeldRow}
 use Rattle.store.specs.Work.{Work, work_of, take_row, take_lone, push_item, lowering, tag_for, suits, wait_coded, Fine, Did, DidWhere, Takes, Took, PutRow}
@@ -38,9 +35,9 @@ use Rattle.soundness.specs.Sound.{tag_fits}
 use Rattle.soundness.specs.Coded.{fields_coded, row_coded, part_coded, item_coded}
 use Rattle.soundness.proofs.NumberLaws.{by_tag}
 use Rattle.store.proofs.CodedLaws.{ExprsCoded, WaitsCoded, exprs_coded, names_coded, diagnostics_coded, all_coded, firsts_rise, fields_still, part_still, row_coded_same, item_coded_same, wait_coded_same, exprs_coded_kept, names_coded_kept, diagnostics_coded_kept}
-use Rattle.layout.proofs.RowLaws.{rows_same, length_rows, get_d_rows, rows_take, rows_drop, between_same, cap_le, cap_over, cap_lim}
-use Rattle.layout.proofs.Frames.{Same, apart, same_on, wrote_then, run_still, text_still, pointer_same, item_same, items_same, made_same, own_items_same, number_kept, exprs_kept, names_kept, diagnostics_kept, lost_kept, sets_kept, entries_kept, waiting_kept, order_kept}
-use Rattle.layout.proofs.WriteLaws.{still_splice, still_set_word, still_all, still_then, Small, length_all, all_other, all_is, all_at}
+use Rattle.layout.proofs.RowLaws.{rows_same, length_rows, get_d_rows, rows_take, rows_drop, cap_le, cap_over, cap_lim}
+use Rattle.layout.proofs.Frames.{Same, apart, same_on, text_still, item_same, items_same, made_same, number_kept, exprs_kept, names_kept, diagnostics_kept, lost_kept, sets_kept, entries_kept, waiting_kept, order_kept}
+use Rattle.layout.proofs.WriteLaws.{still_splice, still_set_word, still_all, still_then, Small, length_all, all_other, all_at}
 
 -- ---- counts
 pub length_waiting : (s : List ℕ) → length (waiting_of s) ≡ cap (word s waiting_count) waiting_limit

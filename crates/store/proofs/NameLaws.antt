@@ -1,9 +1,9 @@
 -- What appending names and diagnostics does to the work. Assumes nothing.
-use mathlib.Core.Path.{◌≡◌, refl, sym, ap, ◌∙◌}
+use mathlib.Core.Path.{◌≡◌, refl, ap, ◌∙◌}
 use mathlib.Core.Logic.{◌⊎◌, inl, inr, ⊎_elim}
-use mathlib.Core.Bool.{Bool, true, false, ◌&&◌}
+use mathlib.Core.Bool.{Bool, true, false}
 use mathlib.Core.List.{List, [], ◌∷◌, ◌++◌}
-use Prim.Native.Nat.{ℕ, zero, suc, ◌+◌, ◌*◌, ◌≤◌, ◌<◌, ◌^◌}
+use Prim.Native.Nat.{ℕ, suc, ◌+◌, ◌*◌, ◌≤◌, ◌<◌, ◌^◌}
 use native.Mathlib.Omega.{arith}
 use lib.ListN.{length, get_or}
 use lib.Dec.{ltb, leb}
@@ -12,7 +12,7 @@ use Rattle.words.specs.Words.{word, set_word}
 use Rattle.words.proofs.WordLaws.{length_set_word, word_set_word_same, word_set_word_other}
 use Rattle.spec.specs.Basics.{Text}
 use Rattle.spec.specs.Module.{Pointer, Name, NameKind, DuplicateKey}
-use Rattle.spec.specs.State.{state, add_duplicate}
+use Rattle.spec.specs.State.{add_duplicate}
 use Rattle.module.specs.Ids.{pointer_of}
 use Rattle.module.specs.Kinds.{kind_of, number_of_kind}
 use Rattle.module.specs.declared.pointer.Pointer as code
@@ -21,13 +21,13 @@ use Rattle.module.specs.declared.kinds.NameKind.TheVariants as kinds
 use Rattle.module.proofs.KindLaws.{name_kind_back}
 use Rattle.layout.specs.Layout.{name_limit, diagnostic_limit, pointer_row, name_row, diagnostic_row, name_count, diagnostic_count, lost_count, entry_place, names_at, name_pointers_at, diagnostics_at, lost_at, uses_at, Long}
 use Rattle.layout.specs.Rows.{cap, rows_to, set_all}
-use Rattle.layout.specs.Changes.{Range, Outside, Wrote, Still}
+use Rattle.layout.specs.Changes.{Outside, Wrote, Still}
 use Rattle.layout.specs.Texts.{text_in}
 use Rattle.layout.specs.Exprs.{pointer_at}
-use Rattle.layout.specs.States.{name_in, diagnostic_in, exprs_of, names_of, diagnostics_of, lost_of, sets_of, entries_of, state_of, waiting_of, used_of, order_of}
-use Rattle.store.specs.Work.{Work, work_of, with_state, name_with, put_name, put_duplicate, lowering, Fine, Did, PutDiagnostic, PutLost}
-use Rattle.layout.proofs.RowLaws.{rows_same, length_rows, cap_le, cap_over, cap_lim}
-use Rattle.layout.proofs.Frames.{Same, apart, same_on, text_still, pointer_same, name_same, diagnostic_same, number_kept, exprs_kept, names_kept, diagnostics_kept, lost_kept, sets_kept, entries_kept, waiting_kept, order_kept}
+use Rattle.layout.specs.States.{name_in, diagnostic_in, names_of, diagnostics_of, lost_of, state_of}
+use Rattle.store.specs.Work.{work_of, with_state, name_with, put_name, put_duplicate, lowering, Did, PutDiagnostic, PutLost}
+use Rattle.layout.proofs.RowLaws.{rows_same, length_rows, cap_le, cap_over}
+use Rattle.layout.proofs.Frames.{Same, text_still, pointer_same, name_same, diagnostic_same, exprs_kept, names_kept, diagnostics_kept, lost_kept, sets_kept, entries_kept, waiting_kept, order_kept}
 use Rattle.layout.proofs.WriteLaws.{still_set_word, still_all, still_then, Small, length_all, all_other, all_at}
 use Rattle.texts.specs.Fits.{text_fits, Held}
 use Rattle.soundness.specs.Sound.{name_row_fits}

@@ -1,7 +1,6 @@
 -- How the code's expressions and items lie in rows: sorts, and when a row says what an expression is.
-use Rattle.std.specs.Prelude.{◌≡◌, Bool, true, false, ◌||◌, List, ℕ, eqb, leb}
+use Rattle.std.specs.Prelude.{◌≡◌, Bool, true, false, ◌||◌, List, ℕ, eqb, leb, if◌then◌else◌}
 use Rattle.std.proofs.Math.Option.{none, some}
-use Rattle.spec.specs.Basics.{if◌then◌else◌}
 use Rattle.spec.specs.Module.{Pointer, Made, missing}
 use Rattle.module.specs.declared.expr.Expr.{Expr}
 use Rattle.module.specs.declared.expr.Expr.TheVariants.{Missing, Apply, IfThenElse, Literal, Lambda, LetIn, List as ListOf, BinOp, AttrSet, UnaryOp, Reference, Select, HasAttr, With, Assert, StringInterpolation, PathInterpolation}

@@ -1,8 +1,8 @@
 -- The work of lowering in a store, and its steps. A step that finds no room leaves everything as it was.
-use Rattle.std.specs.Prelude.{◌≡◌, Bool, true, ◌&&◌, List, [], ◌∷◌, ◌++◌, ℕ, ◌+◌, ◌*◌, ◌≤◌, ◌<◌, length, take, drop, ltb, leb}
+use Rattle.std.specs.Prelude.{◌≡◌, Bool, true, ◌&&◌, List, [], ◌∷◌, ◌++◌, ℕ, ◌+◌, ◌*◌, ◌≤◌, ◌<◌, length, take, drop, ltb, leb, if◌then◌else◌}
 use Rattle.words.specs.Words.{word}
-use Rattle.spec.specs.Basics.{Text, ExprId, NameId, if◌then◌else◌}
-use Rattle.spec.specs.Module.{Pointer, Made, NameKind, Name, DuplicateKey}
+use Rattle.spec.specs.Basics.{Text, ExprId, NameId}
+use Rattle.spec.specs.Module.{Pointer, Made, NameKind, Name}
 use Rattle.spec.specs.Steps.{Step}
 use Rattle.spec.specs.State.{State, state, empty, new_made, add_duplicate}
 use Rattle.spec.specs.Lower.{module_of}

@@ -3,15 +3,15 @@ use mathlib.Core.Path.{◌≡◌, refl, sym, ap, ◌∙◌}
 use mathlib.Core.Logic.{◌⊎◌, inl, inr}
 use mathlib.Core.Bool.{Bool, true, false, ◌||◌}
 use mathlib.Core.List.{List, [], ◌∷◌}
-use Prim.Native.Nat.{ℕ, suc, ◌+◌, ◌-◌, ◌*◌, ◌≤◌, ◌<◌, ◌^◌}
+use Prim.Native.Nat.{ℕ, ◌+◌, ◌≤◌, ◌<◌}
 use native.Mathlib.Omega.{arith}
 use lib.ListN.{length}
 use lib.Dec.{eqb, leb}
-use borrow.Author.Tests.{le-leb, lt-leb, leb-true, eq-eqb, ne_eqb, eqb-true, eqb-false}
+use borrow.Author.Tests.{le-leb, leb-true, eq-eqb, ne_eqb, eqb-true}
 use Rattle.words.specs.Runs.{run, splice}
 use Rattle.words.specs.Words.{number, word, set_word}
-use Rattle.words.proofs.RunLaws.{length_run, length_splice, run_whole, run_splice_other, run_splice_same}
-use Rattle.words.proofs.WordLaws.{word_lt, length_set_word, word_set_word_same, word_set_word_other, run_set_word_other, word_splice_other}
+use Rattle.words.proofs.RunLaws.{length_splice, run_whole, run_splice_other, run_splice_same}
+use Rattle.words.proofs.WordLaws.{length_set_word, word_set_word_same, word_set_word_other, run_set_word_other, word_splice_other}
 use Rattle.layout.specs.Layout.{absent, text_limit, texts_place, texts_at, store_bytes, Long}
 use Rattle.layout.specs.Changes.{Outside, Wrote}
 use Rattle.layout.specs.Texts.{texts_used, text_of, text_in}

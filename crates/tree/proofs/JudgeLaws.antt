@@ -1,4 +1,5 @@
 -- From accepted lines to a judged tree. Assumes nothing.
+use Rattle.std.specs.Prelude.{if◌then◌else◌}
 use mathlib.Core.Path.{◌≡◌, refl, sym, ap, ap₂, ◌∙◌}
 use mathlib.Core.Bool.{Bool, true, false, ◌&&◌}
 use mathlib.Core.List.{List}
@@ -7,7 +8,7 @@ use native.Mathlib.Omega.{arith}
 use lib.ListN.{length}
 use lib.Dec.{eqb, leb}
 use borrow.Author.Tests.{eq-eqb, ne_eqb}
-use Rattle.spec.specs.Basics.{bytes, if◌then◌else◌}
+use Rattle.spec.specs.Basics.{bytes}
 use Rattle.spec.specs.Sheet.{wrong_count, number, decimal, Judged, accepted, refused, read_sheet}
 use Rattle.spec.specs.Tree.{walk_to, whole_tree, judge_tree, judge}
 use Rattle.spec.proofs.reading.Lines.{number_within}

@@ -1,4 +1,5 @@
 -- The places of a kind, by number. Assumes nothing.
+use Rattle.std.specs.Prelude.{if◌then◌else◌}
 use mathlib.Core.Path.{◌≡◌, refl, sym, ap, ◌∙◌, subst}
 use mathlib.Core.Bool.{Bool, true, false, ◌&&◌, ◌||◌}
 use mathlib.Core.List.{List, [], ◌∷◌}
@@ -9,7 +10,6 @@ use lib.ListN.{length, get_or-eq_default}
 use borrow.Author.Tests.{ltb-true, ltb-false, le-leb, lt-leb}
 use types.Run.{OneOf}
 use mir.Facts.{and_yes}
-use Rattle.spec.specs.Basics.{if◌then◌else◌}
 use Rattle.spec.specs.Tree.{count_fits}
 use Rattle.spec.specs.Kinds as Kinds
 use Rattle.spec.specs.Kinds.{Kind, kind_of, kinds}

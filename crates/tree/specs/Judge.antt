@@ -1,6 +1,5 @@
 -- What the answer about a whole tree says.
-use Rattle.std.specs.Prelude.{◌≡◌, List, ℕ, ◌+◌, length, eqb}
-use Rattle.spec.specs.Basics.{if◌then◌else◌}
+use Rattle.std.specs.Prelude.{◌≡◌, List, ℕ, ◌+◌, length, eqb, if◌then◌else◌}
 use Rattle.spec.specs.Sheet.{accepted, read_sheet}
 use Rattle.sheet.specs.Sheets.{first_node}
 use Rattle.sheet.specs.declared.position.Position.{Position}

@@ -1,6 +1,5 @@
 // The places of the kids of each kind.
-ghost use Rattle.std.specs.Prelude.{◌≡◌, true, [], eqb, leb, length};
-ghost use Rattle.spec.specs.Basics.{if◌then◌else◌};
+ghost use Rattle.std.specs.Prelude.{◌≡◌, true, [], eqb, leb, length, if◌then◌else◌};
 ghost use Rattle.spec.specs.Kinds.{kind_of};
 ghost use Rattle.spec.specs.Tree.{count_fits};
 ghost use Rattle.tree.specs.Places.{counted_of, listed_of, Fills, Opens};

@@ -10,16 +10,19 @@
 // lines of no form; a line with a number is judged as it is read.
 #![tactic(auto)]
 
-ghost use Rattle.std.specs.Prelude.{◌≤◌};
+ghost use Rattle.std.specs.Prelude.{◌≤◌, length, IfOk};
 
 use ask::{ask_name, ask_reference};
 use change::{change_name, change_reference};
 use layout::tables::STORE_BYTES;
-use libc::{STDIN_FILENO, STDOUT_FILENO};
 use load::load;
 use printing::{print_answer, print_list, print_load, print_module, print_refusal, reply_word};
 use reader::after_first_line;
 use sheet::{Fault, NumberRead, Position};
+use std::io::{self, Read, Write};
+
+// The list may have so many bytes.
+const LIST_BYTES: usize = 524288;
 
 // A number, and the place after its line.
 #[derive(Clone, Copy)]
@@ -47,9 +50,9 @@ fn number_at(list: &[u8], at: usize, key: &[u8], most: u32) -> Number {
 }
 
 // Where the list does not go on as it should, the rest of it is left out.
-fn broken(list: &[u8]) -> usize {
-    io::write_all(STDOUT_FILENO, b"the list has another form here\n");
-    list.len()
+fn broken<W: Write>(out: &mut W, list: &[u8]) -> io::Result<usize> {
+    out.write_all(b"the list has another form here\n")?;
+    Ok(list.len())
 }
 
 // What is lent is never more than there is.
@@ -64,61 +67,75 @@ fn within(bytes: u32, most: usize) -> usize
 }
 
 // Whether a call was refused; it is then told why. A reply that was too short has the place 0, as it was lent.
-fn told_refused(number: u32, reply: &[u8; 32]) -> bool {
+fn told_refused<W: Write>(out: &mut W, number: u32, reply: &[u8; 32]) -> io::Result<bool> {
     if number == 0 {
-        return false;
+        return Ok(false);
     }
-    print_refusal(number, reply_word(reply, 4));
-    true
+    print_refusal(out, number, reply_word(reply, 4))?;
+    Ok(true)
 }
 
-fn ask_about_reference(store: &[u8], number: u32, lent: u32, told: u32) {
+fn ask_about_reference<W: Write>(
+    out: &mut W,
+    store: &[u8],
+    number: u32,
+    lent: u32,
+    told: u32,
+) -> io::Result<()> {
     let mut buffer = [0u8; 16384];
     let mut reply = [0u8; 32];
     let lent = within(lent, 16384);
     let told = within(told, 32);
     let refused = ask_reference(store, number, &mut buffer[0..lent], &mut reply[0..told]);
-    if told_refused(refused, &reply) {
-        return;
+    if told_refused(out, refused, &reply)? {
+        return Ok(());
     }
     print_answer(
+        out,
         reply_word(&reply, 8),
         reply_word(&reply, 12),
         &buffer,
         reply_word(&reply, 16),
-    );
+    )
 }
 
 // The references of a name; as many expressions as there can be would not fit, but no vector has so many.
-fn print_uses(buffer: &[u8; 16384], count: u32) {
-    print_list(b"list=", buffer, count);
+fn print_uses<W: Write>(out: &mut W, buffer: &[u8; 16384], count: u32) -> io::Result<()> {
+    print_list(out, b"list=", buffer, count)
 }
 
-fn ask_about_name(store: &[u8], number: u32, lent: u32, told: u32) {
+fn ask_about_name<W: Write>(
+    out: &mut W,
+    store: &[u8],
+    number: u32,
+    lent: u32,
+    told: u32,
+) -> io::Result<()> {
     let mut buffer = [0u8; 16384];
     let mut reply = [0u8; 32];
     let lent = within(lent, 16384);
     let told = within(told, 32);
     let refused = ask_name(store, number, &mut buffer[0..lent], &mut reply[0..told]);
-    if told_refused(refused, &reply) {
-        return;
+    if told_refused(out, refused, &reply)? {
+        return Ok(());
     }
-    print_uses(&buffer, reply_word(&reply, 16));
+    print_uses(out, &buffer, reply_word(&reply, 16))
 }
 
 // The References that a change moved.
-fn print_moved(buffer: &[u8; 16384], count: u32) {
-    print_list(b"moved=", buffer, count);
+fn print_moved<W: Write>(out: &mut W, buffer: &[u8; 16384], count: u32) -> io::Result<()> {
+    print_list(out, b"moved=", buffer, count)
 }
 
-fn change(
+fn change<W: Write>(
+    out: &mut W,
     store: &mut [u8; STORE_BYTES],
     kind: u32,
     number: u32,
     text: &[u8],
     lent: u32,
     told: u32,
-) {
+) -> io::Result<()> {
     let mut moved = [0u8; 16384];
     let mut reply = [0u8; 32];
     let lent = within(lent, 16384);
@@ -140,133 +157,181 @@ fn change(
             &mut reply[0..told],
         )
     };
-    if told_refused(refused, &reply) {
-        return;
+    if told_refused(out, refused, &reply)? {
+        return Ok(());
     }
-    print_moved(&moved, reply_word(&reply, 16));
+    print_moved(out, &moved, reply_word(&reply, 16))
 }
 
 // A change, from its line `moved=` on; its text stands behind its lines. Gives the place after it.
-fn run_change(
+fn run_change<W: Write>(
+    out: &mut W,
     list: &[u8],
     at: usize,
     kind: u32,
     number: u32,
     bytes: u32,
     store: &mut [u8; STORE_BYTES],
-) -> usize {
+) -> io::Result<usize> {
     let Number::Is(lent, at) = number_at(list, at, b"moved=", 16384) else {
-        return broken(list);
+        return broken(out, list);
     };
     let Number::Is(told, at) = number_at(list, at, b"reply=", 32) else {
-        return broken(list);
+        return broken(out, list);
     };
     let bytes = bytes as usize;
     if list.len() < at {
-        return broken(list);
+        return broken(out, list);
     }
     if list.len() - at <= bytes {
-        return broken(list);
+        return broken(out, list);
     }
     let end = at + bytes;
-    change(store, kind, number, &list[at..end], lent, told);
-    end + 1
+    change(out, store, kind, number, &list[at..end], lent, told)?;
+    Ok(end + 1)
 }
 
 // An asking, from its line `reply=` on; gives the place after it.
-fn run_asking(list: &[u8], at: usize, kind: u32, number: u32, lent: u32, store: &[u8]) -> usize {
+fn run_asking<W: Write>(
+    out: &mut W,
+    list: &[u8],
+    at: usize,
+    kind: u32,
+    number: u32,
+    lent: u32,
+    store: &[u8],
+) -> io::Result<usize> {
     let Number::Is(told, at) = number_at(list, at, b"reply=", 32) else {
-        return broken(list);
+        return broken(out, list);
     };
     match kind {
-        0 => {
-            ask_about_reference(store, number, lent, told);
-            at
-        }
-        _ => {
-            ask_about_name(store, number, lent, told);
-            at
-        }
+        0 => ask_about_reference(out, store, number, lent, told)?,
+        _ => ask_about_name(out, store, number, lent, told)?,
     }
+    Ok(at)
 }
 
 // One call; gives the place after it.
-fn run_call(list: &[u8], at: usize, store: &mut [u8; STORE_BYTES]) -> usize {
+fn run_call<W: Write>(
+    out: &mut W,
+    list: &[u8],
+    at: usize,
+    store: &mut [u8; STORE_BYTES],
+) -> io::Result<usize> {
     let Number::Is(kind, at) = number_at(list, at, b"call=", 3) else {
-        return broken(list);
+        return broken(out, list);
     };
     let Number::Is(number, at) = number_at(list, at, b"number=", 4294967295) else {
-        return broken(list);
+        return broken(out, list);
     };
     let Number::Is(lent, at) = number_at(list, at, b"lent=", 16384) else {
-        return broken(list);
+        return broken(out, list);
     };
     match kind {
-        0 => run_asking(list, at, kind, number, lent, store),
-        1 => run_asking(list, at, kind, number, lent, store),
-        _ => run_change(list, at, kind, number, lent, store),
+        0 => run_asking(out, list, at, kind, number, lent, store),
+        1 => run_asking(out, list, at, kind, number, lent, store),
+        _ => run_change(out, list, at, kind, number, lent, store),
     }
 }
 
 // All calls of a vector, and what the store tells after them; gives the place after the last.
-fn run_calls(list: &[u8], first: usize, count: u32, store: &mut [u8; STORE_BYTES]) -> usize {
+fn run_calls<W: Write>(
+    out: &mut W,
+    list: &[u8],
+    first: usize,
+    count: u32,
+    store: &mut [u8; STORE_BYTES],
+) -> io::Result<usize> {
     let mut at = first;
     for i in 0..count {
-        at = run_call(list, at, store);
+        at = run_call(out, list, at, store)?;
     }
     if 0 < count {
-        print_module(store);
+        print_module(out, store)?;
     }
-    at
+    Ok(at)
 }
 
-fn load_and_show(sheet: &[u8], store: &mut [u8; STORE_BYTES]) {
+fn load_and_show<W: Write>(
+    out: &mut W,
+    sheet: &[u8],
+    store: &mut [u8; STORE_BYTES],
+) -> io::Result<()> {
     let mut reply = [0u8; 32];
     let refused = load(sheet, store, &mut reply);
-    print_load(refused, &reply, store);
+    print_load(out, refused, &reply, store)
 }
 
 // The sheet and the calls of a vector, from the line `sheet=` on; gives how many bytes they take.
-fn run_sheet(list: &[u8], store: &mut [u8; STORE_BYTES]) -> usize {
+fn run_sheet<W: Write>(
+    out: &mut W,
+    list: &[u8],
+    store: &mut [u8; STORE_BYTES],
+) -> io::Result<usize> {
     let Number::Is(bytes, start) = number_at(list, 0, b"sheet=", 65536) else {
-        return broken(list);
+        return broken(out, list);
     };
     let bytes = bytes as usize;
     if list.len() < start {
-        return broken(list);
+        return broken(out, list);
     }
     if list.len() - start < bytes {
-        return broken(list);
+        return broken(out, list);
     }
     let end = start + bytes;
-    load_and_show(&list[start..end], store);
+    load_and_show(out, &list[start..end], store)?;
     let Number::Is(count, first) = number_at(list, end, b"calls=", 4096) else {
-        return broken(list);
+        return broken(out, list);
     };
-    run_calls(list, first, count, store)
+    run_calls(out, list, first, count, store)
 }
 
 // Vectors one after the other, until the list ends or one has another form.
-fn run_list(list: &[u8], store: &mut [u8; STORE_BYTES]) {
+fn run_list<W: Write>(out: &mut W, list: &[u8], store: &mut [u8; STORE_BYTES]) -> io::Result<()> {
     let mut at = after_first_line(list);
     while at < list.len() {
         let title = after_first_line(&list[at..]);
         if title == 0 {
-            return;
+            return Ok(());
         }
         let end = at + title;
-        io::write_all(STDOUT_FILENO, &list[at..end]);
-        let taken = run_sheet(&list[end..], store);
+        out.write_all(&list[at..end])?;
+        let taken = run_sheet(out, &list[end..], store)?;
         if list.len() - end < taken {
-            return;
+            return Ok(());
         }
         at = end + taken;
     }
+    Ok(())
 }
 
-fn main() {
+// Reads until the buffer is full or the input ends, and gives how many bytes were read.
+fn read_list<R: Read>(input: &mut R, list: &mut [u8]) -> io::Result<usize>
+    ensures { IfOk result (λ n. n ≤ length list.new) }
+{
+    let most = list.len();
+    let n = io::copy(&mut input.take(most as u64), &mut &mut list[..])?;
+    Ok(most.min(n as usize))
+}
+
+// The vectors of the list that is read into a buffer; what does not fit into it is left out.
+fn run_input<R: Read, W: Write>(
+    input: &mut R,
+    out: &mut W,
+    list: &mut [u8; LIST_BYTES],
+    store: &mut [u8; STORE_BYTES],
+) -> io::Result<()> {
+    let n = read_list(input, list)?;
+    run_list(out, &list[..n], store)
+}
+
+fn main(rt: HostRuntime) -> io::Result<()> {
     let mut store = [0u8; STORE_BYTES];
-    let mut list = [0u8; 524288];
-    let n = io::read_full(STDIN_FILENO, &mut list);
-    run_list(&list[..n], &mut store);
+    let mut list = [0u8; LIST_BYTES];
+    run_input(
+        &mut rt.reader(),
+        &mut io::writer(&rt),
+        &mut list,
+        &mut store,
+    )
 }

@@ -1,13 +1,12 @@
 -- The order of lists of bytes: the first difference decides, and a list that ends where the other goes on is the
 -- smaller. The type `Order` is the code's; a crate above names it Rattle.words.specs.declared.ordering.Order.
-use Rattle.std.specs.Prelude.{Bool, true, false, List, [], ◌∷◌, ℕ, ltb}
+use Rattle.std.specs.Prelude.{Bool, cond, List, [], ◌∷◌, ℕ, ltb}
 use Rattle.words.specs.declared.ordering.Order.{Order}
 use Rattle.words.specs.declared.ordering.Order.TheVariants.{Less, Equal, Greater}
 
 -- the first where the test passes, the second where it fails
 abbrev pub pick : {A : Type 0} → Bool → A → A → A
-pick true a b = a
-pick false a b = b
+pick t a b = cond t a b
 
 -- two numbers
 unfoldable pub order_of : ℕ → ℕ → Order

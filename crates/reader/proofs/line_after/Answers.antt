@@ -11,7 +11,7 @@ pub after-next-requires : goal.after-next-requires
 after-next-requires c = omega (arith, value_inside c.line.result c.in-Value.v _ c.in-Value.is c.line.ensures.value_inside)
 
 pub overflow_add-result : goal.overflow_add-result
-overflow_add-result c = let i = value_inside c.line.result c.in-Value.v _ c.in-Value.is c.line.ensures.value_inside in omega (arith, i.1, c.after-next.ensures, c.rest-1.given.1)
+overflow_add-result c = let i = value_inside c.line.result c.in-Value.v _ c.in-Value.is c.line.ensures.value_inside in omega (arith, i.1, c.after-next.ensures)
 
 pub returns-in-Value : goal.returns-in-Value
 returns-in-Value c = after_value c.args.s.now c.args.at c.first-first.result.at c.first-first.ensures c.line.result c.line.ensures.result_value c.in-Value.v c.in-Value.is c.after-next.result.at c.after-next.ensures

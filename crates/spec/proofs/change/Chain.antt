@@ -1,11 +1,12 @@
 -- What a text means in a scope depends only on the texts of the names that the scope and those around it hold. Assumes
 -- nothing.
+use Rattle.std.specs.Prelude.{if◌then◌else◌}
 use mathlib.Core.Path.{◌≡◌, refl, ap}
 use mathlib.Core.Bool.{true}
 use mathlib.Core.List.{List, [], ◌∷◌}
 use mathlib.Core.Option.{Option, none, some}
 use Rattle.words.specs.Equality.{equalb}
-use Rattle.spec.specs.Basics.{Text, NameId, ScopeId, if◌then◌else◌}
+use Rattle.spec.specs.Basics.{Text, NameId, ScopeId}
 use Rattle.spec.specs.Scopes.{ScopeKind, definitions, with_expr, Scope, is_in, holds}
 use Rattle.spec.specs.Answer.{scope_at, chain, last_with, defined_in, innermost, after_definitions, answer_in, answer_at}
 use Rattle.spec.proofs.general.ListLaws.{is_in_first, is_in_rest}

@@ -1,5 +1,6 @@
 -- Demand 3: every call of every list comes to what the plain book comes to, and moves only what it may, for any store
 -- that does as `Kept` says. Assumes nothing.
+use Rattle.std.specs.Prelude.{if◌then◌else◌}
 use mathlib.Core.Path.{◌≡◌, refl, sym, ap, subst, ◌∙◌}
 use mathlib.Core.Logic.{◌≢◌}
 use mathlib.Core.Bool.{Bool, true, false, not}
@@ -13,7 +14,7 @@ use lib.ListN.{length, get_or, get_or-eq_default}
 use borrow.Author.Tests.{eqb-true, ltb-true, ltb-false}
 use Rattle.words.specs.Equality.{equalb}
 use Rattle.words.proofs.EqualityLaws.{equalb_refl}
-use Rattle.spec.specs.Basics.{Text, ExprId, NameId, if◌then◌else◌}
+use Rattle.spec.specs.Basics.{Text, ExprId, NameId}
 use Rattle.spec.specs.Sheet.{Node}
 use Rattle.spec.specs.Module.{Module}
 use Rattle.spec.specs.Lower.{lower_module}

@@ -1,5 +1,6 @@
 -- Answers and references that are kept afresh stay so though a change resolves again only References whose answer it may
 -- move. Assumes nothing.
+use Rattle.std.specs.Prelude.{if◌then◌else◌}
 use mathlib.Core.Path.{◌≡◌, refl, sym, ap, ◌∙◌}
 use mathlib.Core.Bool.{Bool, true, false}
 use mathlib.Core.List.{List, [], ◌∷◌}
@@ -12,7 +13,7 @@ use lib.ListN.{length, get_or, length-set, get_or-eq_default}
 use borrow.Author.Tests.{ltb-true, ltb-false, leb-false}
 use Rattle.words.specs.Equality.{equalb}
 use Rattle.words.proofs.EqualityLaws.{equalb_true}
-use Rattle.spec.specs.Basics.{Text, ExprId, NameId, if◌then◌else◌}
+use Rattle.spec.specs.Basics.{Text, ExprId, NameId}
 use Rattle.spec.specs.Module.{missing, Made, Module}
 use Rattle.spec.specs.Scopes.{Scopes, made_at, expr_at}
 use Rattle.spec.specs.Answer.{Answer, reference_text, answer_of, answer, references_from, references}

@@ -9,7 +9,7 @@ use native.Mathlib.Omega.{arith}
 use lib.Dec.{eqb}
 use Rattle.words.specs.Order.{pick}
 use Rattle.spec.specs.Basics.{Text, NodeId, ExprId, NameId}
-use Rattle.spec.specs.Keys.{kind, flag, text}
+use Rattle.spec.specs.Keys.{flag, text}
 use Rattle.spec.specs.Sheet.{Node}
 use Rattle.spec.specs.Module.{InterpolPart, literal_part, interpol, BindingValue, expr, inherit, inherit_from, Bindings, Pat, Expr, missing, apply, reference, with_in, assert_in, NameKind}
 use Rattle.spec.specs.State.{SetId, MergingEntry, Low}

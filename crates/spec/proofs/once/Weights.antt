@@ -10,7 +10,7 @@ use lib.ListN.{length, get_or}
 use lib.Seq.{get_or-append_seam, append_snoc}
 use Rattle.spec.specs.Basics.{Text, ExprId, NameId}
 use Rattle.spec.specs.Steps.{◌>>=◌, give, asks, when, each}
-use Rattle.spec.specs.Module.{Pointer, expr, Expr, missing, Made, NameKind, Name, Module}
+use Rattle.spec.specs.Module.{Pointer, Expr, missing, Made, NameKind, Name, Module}
 use Rattle.spec.specs.State.{SetId, MergingEntry, State, Low, new_made, alloc_expr, alloc_missing, alloc_name}
 use Rattle.spec.specs.Merge.{set_of, nested_in}
 use Rattle.spec.specs.Scopes.{one_or_none, form, expr_at, made_at}

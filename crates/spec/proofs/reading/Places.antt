@@ -1,5 +1,6 @@
 -- Reading never leaves the sheet: the next line begins, and a wrong line begins, at a byte of the sheet or at its end.
 -- Assumes nothing.
+use Rattle.std.specs.Prelude.{if◌then◌else◌}
 use mathlib.Core.Path.{◌≡◌, refl, ap}
 use mathlib.Core.Bool.{Bool, true, false, ◌&&◌}
 use mathlib.Core.List.{List, [], ◌∷◌}
@@ -9,8 +10,8 @@ use Prim.Native.String.{String}
 use native.Mathlib.Omega.{arith}
 use lib.ListN.{length, drop, length-drop}
 use lib.Dec.{eqb, leb}
-use Rattle.spec.specs.Basics.{Text, bytes, if◌then◌else◌, maybe}
-use Rattle.spec.specs.Sheet.{Node, Fault, malformed, wrong_count, wrong_kind, wrong_range, wrong_flag, wrong_kid, wrong_text, Got, got, bad, Reader, next, ◌>>=◌, give, after, up_to_end, line, field, decimal, number, kid_list, all_below, hex, text_fits, node, nodes_from, node_list}
+use Rattle.spec.specs.Basics.{Text, bytes, maybe}
+use Rattle.spec.specs.Sheet.{Fault, malformed, wrong_count, wrong_kind, wrong_range, wrong_flag, wrong_kid, wrong_text, Got, got, bad, Reader, next, ◌>>=◌, give, after, up_to_end, line, field, decimal, number, kid_list, all_below, hex, text_fits, node, nodes_from, node_list}
 use Rattle.spec.specs.Kinds.{kind_of}
 
 -- ---- how many bytes a line takes

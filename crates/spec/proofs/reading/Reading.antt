@@ -1,16 +1,16 @@
 -- The nodes of an accepted sheet stand one after the other in its bytes, from its second line to its end. Assumes
 -- nothing.
+use Rattle.std.specs.Prelude.{if◌then◌else◌}
 use mathlib.Core.Path.{◌≡◌, refl, sym, ap, ◌∙◌}
 use mathlib.Core.Bool.{Bool, true, false}
 use mathlib.Core.List.{List, [], ◌∷◌}
-use Prim.Native.Nat.{ℕ, zero, suc, ◌+◌, ◌≤◌}
+use Prim.Native.Nat.{ℕ, zero, suc, ◌+◌}
 use native.Mathlib.Omega.{arith}
 use lib.ListN.{length}
 use lib.Dec.{leb, eqb}
 use borrow.Author.Tests.{eqb-true}
 use Rattle.words.specs.Order.{pick}
-use Rattle.spec.specs.Basics.{if◌then◌else◌}
-use Rattle.spec.specs.Sheet.{Node, Fault, wrong_count, Got, got, bad, Reader, next, ◌>>=◌, give, number, node, nodes_from, node_list, Judged, accepted, refused, whole, read_sheet, fault_number}
+use Rattle.spec.specs.Sheet.{Node, wrong_count, Got, got, bad, next, ◌>>=◌, give, number, node, nodes_from, node_list, Judged, accepted, refused, whole, read_sheet}
 use Rattle.spec.specs.Tree.{Walked, met, stopped, walk_to, whole_tree, judge_tree, judge}
 
 -- The nodes of a sheet of `nodes` nodes from number i on, the first of them at the place `at`, and the place after the

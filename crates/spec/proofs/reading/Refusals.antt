@@ -1,5 +1,6 @@
 -- What is known of any refused sheet: its number is never 0, which a load returns where it refuses nothing; and its
 -- place is at most the longest sheet's length, so that a word of the reply holds all of it. Assumes nothing.
+use Rattle.std.specs.Prelude.{if◌then◌else◌}
 use mathlib.Core.Path.{◌≡◌, refl, sym, ap, subst, ◌∙◌}
 use mathlib.Core.Bool.{Bool, true, false, and-eq-true_iff}
 use mathlib.Core.List.{List, [], ◌∷◌}
@@ -9,7 +10,7 @@ use native.Mathlib.Omega.{arith}
 use lib.ListN.{length, get_or-eq_default}
 use lib.Dec.{eqb, leb, ltb}
 use borrow.Author.Tests.{leb-true, ltb-true, ltb-false}
-use Rattle.spec.specs.Basics.{NodeId, if◌then◌else◌}
+use Rattle.spec.specs.Basics.{NodeId}
 use Rattle.spec.specs.Kinds.{Slot, expression, path, attribute, entry, part, parameter, from, ident, bind, pattern_entry, takes, kind_of}
 use Rattle.spec.specs.Sheet.{Node, Fault, malformed, wrong_count, wrong_kind, wrong_range, wrong_flag, wrong_kid, wrong_text, fault_number, Got, got, bad, Judged, accepted, refused, whole, node_list, read_sheet}
 use Rattle.spec.specs.Tree.{Walked, met, stopped, then_walk, count_fits, nobody, node_at, kid_fits, walk_kids, walk_node, walk_to, whole_tree, judge_tree, judge}

@@ -7,7 +7,7 @@ use mathlib.Core.Option.{none, some}
 use Prim.Native.Nat.{ℕ, ◌<◌, ◌≤◌}
 use native.Mathlib.Omega.{arith}
 use lib.Dec.{eqb}
-use lib.ListN.{length, set, length-append, get_or-append}
+use lib.ListN.{length, length-append, get_or-append}
 use lib.Seq.{get_or-append_seam}
 use Rattle.words.specs.Order.{pick}
 use Rattle.spec.specs.Basics.{Text, ExprId, NameId}

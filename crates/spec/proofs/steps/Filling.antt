@@ -7,7 +7,7 @@ use mathlib.Core.Option.{Option, none, some}
 use Prim.Native.Nat.{ℕ, zero, suc, ◌+◌, ◌*◌, ◌≤◌}
 use native.Mathlib.Omega.{arith}
 use lib.Dec.{eqb}
-use lib.ListN.{length, set}
+use lib.ListN.{length}
 use Rattle.words.specs.Order.{pick}
 use Rattle.spec.specs.Basics.{Text, ExprId, maybe}
 use Rattle.spec.specs.Steps.{◌>>=◌, give, asks, when, each}

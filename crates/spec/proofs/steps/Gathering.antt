@@ -2,11 +2,11 @@
 -- nothing.
 use mathlib.Core.Path.{◌≡◌, refl, ap, ◌∙◌}
 use mathlib.Core.Bool.{Bool, true, false}
-use mathlib.Core.List.{List, []}
+use mathlib.Core.List.{List}
 use mathlib.Core.Option.{Option, none, some}
 use Prim.Native.Nat.{ℕ, ◌+◌, ◌≤◌}
 use native.Mathlib.Omega.{arith}
-use lib.ListN.{length, get_or, set, take, length-append, length-set}
+use lib.ListN.{length, get_or, take, length-append, length-set}
 use lib.Seq.{take-append_seam}
 use Rattle.spec.specs.Basics.{Text}
 use Rattle.spec.specs.Steps.{◌>>=◌, give, asks, when}

@@ -1,5 +1,4 @@
 -- `builtins::lookup::lookup_global_builtin` meets its contract.
-use Prim.Native.Nat.{◌-◌}
 use Rattle.builtins.proofs.LookupLaws.{name_found, name_passed, name_lacked}
 use mathlib.Core.Path.{refl}
 use native.Mathlib.Omega.{arith}

@@ -1,5 +1,4 @@
 -- `intake::bring::bring_all` meets its contract.
-use Prim.Native.Nat.{◌-◌}
 use Rattle.intake.proofs.BringLaws.{going_start, going_more, going_stopped, going_end, more_is, full_is}
 use native.Mathlib.Omega.{arith}
 use Rattle.intake.proofs.bring.bring_all.Goals as goal

@@ -1,5 +1,4 @@
 -- `intake::bring::bring_kids` meets its contract.
-use Prim.Native.Nat.{◌-◌}
 use Rattle.intake.proofs.BringKidLaws.{filling_start, filling_end, filling_full, filling_more, kids_end, kids_word}
 use borrow.Author.Rules.{rules}
 use native.Mathlib.Omega.{arith}

@@ -1,5 +1,4 @@
 -- `kept::holding::holds_name` meets its contract.
-use Prim.Native.Nat.{◌-◌}
 use Rattle.kept.proofs.HoldingLaws.{entered_from, names_begun, name_found, name_passed, name_lacked}
 use Rattle.kept.proofs.ScopeReads.{named, below_cap}
 use mathlib.Core.Path.{refl, sym, ◌∙◌}

@@ -1,5 +1,4 @@
 -- `kept::holding::scope_holding` meets its contract.
-use Prim.Native.Nat.{◌-◌}
 use Rattle.kept.proofs.HoldingLaws.{scopes_begun, scope_found, scope_passed, scope_lacked}
 use Rattle.layout.proofs.RowLaws.{cap_lim}
 use Rattle.layout.specs.Layout.{scope_limit, scope_count}

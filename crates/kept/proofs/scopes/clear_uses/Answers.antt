@@ -1,5 +1,4 @@
 -- `kept::scopes::clear_uses` meets its contract.
-use Prim.Native.Nat.{◌-◌}
 use Rattle.kept.proofs.ScopeLaws.{unplaced_none, unplaced_more, unplaced_done}
 use native.Mathlib.Omega.{arith}
 use Rattle.kept.proofs.scopes.clear_uses.Goals as goal

@@ -1,5 +1,4 @@
 -- `keys::ast_utils::has_interpolation` meets its contract.
-use Prim.Native.Nat.{◌-◌}
 use Rattle.keys.proofs.ItemLaws.{next_end, next_first}
 use Rattle.keys.proofs.KeyLaws.{seeking_start, seeking_end, seeking_found, seeking_more}
 use native.Mathlib.Omega.{arith}

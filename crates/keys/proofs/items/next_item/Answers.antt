@@ -1,5 +1,4 @@
 -- `keys::items::next_item` meets its contract.
-use Prim.Native.Nat.{◌-◌}
 use Rattle.keys.proofs.ItemLaws.{passed_none, passed_more, passed_item, passed_end}
 use native.Mathlib.Omega.{arith}
 use Rattle.keys.proofs.items.next_item.Goals as goal

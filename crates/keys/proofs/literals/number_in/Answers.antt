@@ -1,5 +1,4 @@
 -- `keys::literals::number_in` meets its contract.
-use Prim.Native.Nat.{◌-◌}
 use Rattle.keys.proofs.NumberLaws.{counting_start, counting_more, counting_end}
 use Rattle.keys.proofs.literals.number_in.Goals as goal
 

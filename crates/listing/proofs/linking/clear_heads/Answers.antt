@@ -1,5 +1,4 @@
 -- `listing::linking::clear_heads` meets its contract.
-use Prim.Native.Nat.{◌-◌}
 use Rattle.listing.proofs.LinkLaws.{unheaded_none, unheaded_more, unheaded_done}
 use native.Mathlib.Omega.{arith}
 use Rattle.listing.proofs.linking.clear_heads.Goals as goal

@@ -1,5 +1,4 @@
 -- `listing::lists::list_all` meets its contract.
-use Prim.Native.Nat.{◌-◌}
 use Rattle.listing.proofs.ListingLaws.{listing_none, ready, listing_more, listing_done}
 use native.Mathlib.Omega.{arith}
 use Rattle.listing.proofs.lists.list_all.Goals as goal

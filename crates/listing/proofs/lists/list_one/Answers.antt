@@ -1,5 +1,4 @@
 -- `listing::lists::list_one` meets its contract.
-use Prim.Native.Nat.{◌-◌}
 use Rattle.listing.proofs.ListingLaws.{walking_none, walking_next, walking_more, walking_done}
 use native.Mathlib.Omega.{arith}
 use Rattle.listing.proofs.lists.list_one.Goals as goal

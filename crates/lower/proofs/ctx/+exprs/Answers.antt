@@ -1,5 +1,4 @@
 -- The functions of the cycle `+exprs` meet their contracts.
-use Prim.Native.Nat.{◌-◌}
 use Rattle.lower.proofs.BindingLaws.{let_lowers, set_lowers}
 use Rattle.lower.proofs.ExprLaws.{binop_missing, binop_lowers, cond_lowers, opt_node, opt_absent, pair_lowers, there_node, there_absent, unop_missing, unop_lowers}
 use Rattle.lower.proofs.InnerLaws.{desugar_lowers, nest_lowers}
@@ -16,7 +15,6 @@ use Rattle.module.specs.Literals.{Valid}
 use Rattle.rows.specs.Decoded.{ValidExpr}
 use borrow.Author.Rules.{rules}
 use borrow.Author.Tests.{eq-eqb}
-use borrow.Fn.PlainCycle.{is}
 use mathlib.Core.Path.{◌∙◌, sym}
 use native.Mathlib.Omega.{arith}
 use Rattle.lower.proofs.ctx.+exprs.Goals as goal

@@ -1,5 +1,4 @@
 -- The functions of the cycle `+finishing` meet their contracts.
-use Prim.Native.Nat.{◌-◌}
 use Rattle.merge.proofs.FinishLaws.{going_none, going_more, going_done, static_listed, lone_listed, no_bound, set_finished, nested_wins, value_stays, value_missing}
 use Rattle.merge.specs.Finishes.{finish_entry, entry_load}
 use Rattle.module.specs.Ids.{binding_of}
@@ -7,7 +6,6 @@ use Rattle.open_sets.specs.Entries.{entry_with, maybe_set_of, maybe_value_of}
 use Rattle.open_sets.specs.Run.{NextInRun}
 use Rattle.rows.specs.Decoded.{item_with, ValidExpr}
 use borrow.Author.Rules.{rules}
-use borrow.Fn.PlainCycle.{is}
 use native.Mathlib.Omega.{arith}
 use Rattle.merge.proofs.finish.+finishing.Goals as goal
 

@@ -1,5 +1,4 @@
 -- `moving::by_name::count_moved_by_name` meets its contract.
-use Prim.Native.Nat.{◌-◌}
 use Rattle.moving.proofs.AllLaws.{counted}
 use Rattle.moving.proofs.ListLaws.{counting_none, counting_low, counting_on, counting_done}
 use native.Mathlib.Omega.{arith}

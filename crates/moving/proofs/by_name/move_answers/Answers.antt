@@ -1,5 +1,4 @@
 -- `moving::by_name::move_answers` meets its contract.
-use Prim.Native.Nat.{◌-◌}
 use Rattle.moving.proofs.AllLaws.{counted, moving_none, moving_fits, moving_on, moving_done, about_still}
 use native.Mathlib.Omega.{arith}
 use Rattle.moving.proofs.by_name.move_answers.Goals as goal

@@ -1,5 +1,4 @@
 -- `nameres::resolution::answer_all` meets its contract.
-use Prim.Native.Nat.{◌-◌}
 use Rattle.nameres.proofs.StepLaws.{afresh_none, afresh_more, afresh_done}
 use native.Mathlib.Omega.{arith}
 use Rattle.nameres.proofs.resolution.answer_all.Goals as goal

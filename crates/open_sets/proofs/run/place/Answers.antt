@@ -1,5 +1,4 @@
 -- `open_sets::run::place` meets its contract.
-use Prim.Native.Nat.{◌-◌}
 use Rattle.open_sets.proofs.RunReads.{search_begun, search_left, search_right, search_done}
 use native.Mathlib.Omega.{arith}
 use Rattle.open_sets.proofs.run.place.Goals as goal

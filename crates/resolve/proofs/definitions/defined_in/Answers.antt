@@ -1,5 +1,4 @@
 -- `resolve::definitions::defined_in` meets its contract.
-use Prim.Native.Nat.{◌-◌}
 use Rattle.module.specs.Ids.{name_of}
 use Rattle.resolve.proofs.DefinitionLaws.{from_last, name_found, name_passed, name_lacked}
 use mathlib.Core.Path.{ap}

@@ -1,5 +1,4 @@
 -- `resolve::references::write_references` meets its contract.
-use Prim.Native.Nat.{◌-◌}
 use Rattle.resolve.proofs.ReferenceLaws.{copying_none, copying_more, copying_lost, copying_done}
 use native.Mathlib.Omega.{arith}
 use Rattle.resolve.proofs.references.write_references.Goals as goal

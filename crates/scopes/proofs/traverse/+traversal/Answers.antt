@@ -1,5 +1,4 @@
 -- The functions of the cycle `+traversal` meet their contracts.
-use Prim.Native.Nat.{◌-◌}
 use Rattle.layout.specs.Exprs.{pattern}
 use Rattle.rows.specs.Decoded.{pattern_with}
 use Rattle.scopes.proofs.FormLaws.{missing_arm, apply_arm, cond_arm, literal_arm, lambda_arm, let_arm, list_arm, binop_arm, set_arm, unary_arm, reference_arm, select_arm, has_arm, with_arm, assert_arm, string_arm, path_arm}
@@ -8,7 +7,6 @@ use Rattle.scopes.proofs.Steps.{child_walked, child_left, follows_then, follows_
 use Rattle.scopes.proofs.TraverseLaws.{bindings_walked, lambda_walked, path_walked}
 use Rattle.scopes.specs.Picking.{picked, picks_of}
 use Rattle.spec.specs.Scopes.{field_defaults, pat_fields}
-use borrow.Fn.PlainCycle.{is}
 use native.Mathlib.Omega.{arith}
 use Rattle.scopes.proofs.traverse.+traversal.Goals as goal
 

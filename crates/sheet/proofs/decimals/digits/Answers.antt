@@ -1,5 +1,4 @@
 -- `sheet::decimals::digits` meets its contract.
-use Prim.Native.Nat.{◌-◌}
 use Rattle.sheet.proofs.DecimalLaws.{digits_start, digits_other, digits_more, digits_end, digit_low, digit_high}
 use native.Mathlib.Omega.{arith}
 use Rattle.sheet.proofs.decimals.digits.Goals as goal

@@ -1,5 +1,4 @@
 -- `sheet::kids::judge_kids` meets its contract.
-use Prim.Native.Nat.{◌-◌}
 use Rattle.sheet.proofs.KidLaws.{judging_start, judging_told, judging_more, judging_less}
 use native.Mathlib.Omega.{arith}
 use Rattle.sheet.proofs.kids.judge_kids.Goals as goal

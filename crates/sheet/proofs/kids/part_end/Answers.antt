@@ -1,5 +1,4 @@
 -- `sheet::kids::part_end` meets its contract.
-use Prim.Native.Nat.{◌-◌}
 use Rattle.sheet.proofs.KidLaws.{cut_start, cut_comma, cut_more, cut_end}
 use native.Mathlib.Omega.{arith}
 use Rattle.sheet.proofs.kids.part_end.Goals as goal

@@ -1,5 +1,4 @@
 -- `sheet::lines::far_end` meets its contract.
-use Prim.Native.Nat.{◌-◌}
 use Rattle.sheet.proofs.LineLaws.{scan_start, scan_found, scan_more, scan_none, scan_one, scan_two, scan_three, scan_four}
 use native.Mathlib.Omega.{arith}
 use Rattle.sheet.proofs.lines.far_end.Goals as goal

@@ -1,5 +1,4 @@
 -- `sheet::lines::line_end` meets its contract.
-use Prim.Native.Nat.{◌-◌}
 use Rattle.sheet.proofs.LineLaws.{scan_start, scan_found, scan_more, scan_none}
 use native.Mathlib.Omega.{arith}
 use Rattle.sheet.proofs.lines.line_end.Goals as goal

@@ -1,5 +1,4 @@
 -- `sheet::texts::all_digits` meets its contract.
-use Prim.Native.Nat.{◌-◌}
 use Rattle.sheet.proofs.TextLaws.{numbers_start, numbers_other, numbers_more, numbers_end}
 use borrow.Author.Tests.{not-true, not-false}
 use native.Mathlib.Omega.{arith}

@@ -1,5 +1,4 @@
 -- `sheet::texts::decode_text` meets its contract.
-use Prim.Native.Nat.{◌-◌}
 use Rattle.sheet.proofs.TextLaws.{written_none, written_more, written_all}
 use native.Mathlib.Omega.{arith}
 use Rattle.sheet.proofs.texts.decode_text.Goals as goal

@@ -1,5 +1,4 @@
 -- `sheet::texts::is_hex_text` meets its contract.
-use Prim.Native.Nat.{◌-◌}
 use Rattle.sheet.proofs.TextLaws.{hexed_start, hexed_odd, hexed_first, hexed_second, hexed_more, hexed_end}
 use borrow.Author.Tests.{not-true, not-false}
 use native.Mathlib.Omega.{arith}

@@ -1,5 +1,4 @@
 -- `soundness::firsts::firsts_ascend` meets its contract.
-use Prim.Native.Nat.{◌-◌}
 use Rattle.soundness.proofs.SoundLaws.{climbs_none, climbs_more, starts_above, falls, climbs_end}
 use Rattle.soundness.proofs.SoundTableLaws.{at_base, at_next, word_next, next_within}
 use mathlib.Core.Path.{sym}

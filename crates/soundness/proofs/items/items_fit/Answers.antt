@@ -1,9 +1,6 @@
 -- `soundness::items::items_fit` meets its contract.
-use Prim.Native.Nat.{◌-◌}
 use Rattle.soundness.proofs.SoundLaws.{from_none, from_more, from_fails, from_fewer}
-use Rattle.soundness.specs.Sound.{item_fits}
 use borrow.Author.Tests.{not-true, not-false}
-use mathlib.Core.Bool.{true}
 use mathlib.Core.Path.{sym, ◌∙◌}
 use native.Mathlib.Omega.{arith}
 use Rattle.soundness.proofs.items.items_fit.Goals as goal

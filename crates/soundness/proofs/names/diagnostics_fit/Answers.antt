@@ -1,9 +1,7 @@
 -- `soundness::names::diagnostics_fit` meets its contract.
-use Prim.Native.Nat.{◌-◌}
 use Rattle.soundness.proofs.SoundLaws.{all_none, all_more, all_fails, all_fewer}
 use Rattle.soundness.specs.Sound.{diagnostics_fit}
 use borrow.Author.Tests.{not-true, not-false}
-use mathlib.Core.Bool.{true}
 use mathlib.Core.Path.{sym, ◌∙◌}
 use native.Mathlib.Omega.{arith}
 use Rattle.soundness.proofs.names.diagnostics_fit.Goals as goal

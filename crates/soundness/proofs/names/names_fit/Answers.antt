@@ -1,9 +1,7 @@
 -- `soundness::names::names_fit` meets its contract.
-use Prim.Native.Nat.{◌-◌}
 use Rattle.soundness.proofs.SoundLaws.{all_none, all_more, all_fails, all_fewer}
-use Rattle.soundness.specs.Sound.{name_row_fits, names_fit}
+use Rattle.soundness.specs.Sound.{names_fit}
 use borrow.Author.Tests.{not-true, not-false}
-use mathlib.Core.Bool.{true}
 use mathlib.Core.Path.{sym, ◌∙◌}
 use native.Mathlib.Omega.{arith}
 use Rattle.soundness.proofs.names.names_fit.Goals as goal

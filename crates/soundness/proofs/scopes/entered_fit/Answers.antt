@@ -1,8 +1,6 @@
 -- `soundness::scopes::entered_fit` meets its contract.
-use Prim.Native.Nat.{◌-◌}
 use Rattle.soundness.proofs.SoundCountLaws.{name_fails, name_passes}
 use Rattle.soundness.proofs.SoundLaws.{all_none, all_more, all_fails, all_fewer}
-use mathlib.Core.Bool.{true}
 use mathlib.Core.Path.{sym}
 use native.Mathlib.Omega.{arith}
 use Rattle.soundness.proofs.scopes.entered_fit.Goals as goal

@@ -1,8 +1,6 @@
 -- `soundness::uses::references_fit` meets its contract.
-use Prim.Native.Nat.{◌-◌}
 use Rattle.soundness.proofs.SoundCountLaws.{expr_fails, expr_passes}
 use Rattle.soundness.proofs.SoundLaws.{all_none, all_more, all_fails, all_fewer}
-use mathlib.Core.Bool.{true}
 use mathlib.Core.Path.{sym}
 use native.Mathlib.Omega.{arith}
 use Rattle.soundness.proofs.uses.references_fit.Goals as goal

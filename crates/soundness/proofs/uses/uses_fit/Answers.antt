@@ -1,9 +1,6 @@
 -- `soundness::uses::uses_fit` meets its contract.
-use Prim.Native.Nat.{◌-◌}
 use Rattle.soundness.proofs.SoundLaws.{all_none, all_more, all_fails, all_fewer}
-use Rattle.soundness.specs.Sound.{use_fits}
 use borrow.Author.Tests.{not-true, not-false}
-use mathlib.Core.Bool.{true}
 use mathlib.Core.Path.{sym, ◌∙◌}
 use native.Mathlib.Omega.{arith}
 use Rattle.soundness.proofs.uses.uses_fit.Goals as goal

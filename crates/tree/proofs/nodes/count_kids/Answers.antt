@@ -1,5 +1,4 @@
 -- `tree::nodes::count_kids` meets its contract.
-use Prim.Native.Nat.{◌-◌}
 use Rattle.tree.proofs.NodeLaws.{counting_none, counting_more, counting_end, at_end, one_passed}
 use native.Mathlib.Omega.{arith}
 use Rattle.tree.proofs.nodes.count_kids.Goals as goal

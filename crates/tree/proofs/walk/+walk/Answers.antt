@@ -1,11 +1,9 @@
 -- The functions of the cycle `+walk` meet their contracts.
-use Prim.Native.Nat.{◌-◌}
 use Rattle.spec.specs.Kinds.{takes}
 use Rattle.tree.proofs.NodeLaws.{kid_none, kid_absent, kid_number}
 use Rattle.tree.proofs.PlaceLaws.{is_first, is_item, is_outside}
 use Rattle.tree.proofs.WalkLaws.{stops, walks_as, misnumbered, misplaced, too_deep, goes_in, miscounted, kids_walked, ended, skipped, absent_item, beyond_places, after_first_lem, after_item, steps_as, is_done, is_more, going_none, going_more}
 use borrow.Author.Tests.{not-true, not-false}
-use borrow.Fn.PlainCycle.{is}
 use mathlib.Core.Path.{◌∙◌, sym, ap}
 use native.Mathlib.Omega.{arith}
 use Rattle.tree.proofs.walk.+walk.Goals as goal

@@ -1,5 +1,4 @@
 -- `words::copying::copy_run` meets its contract.
-use Prim.Native.Nat.{◌-◌}
 use Rattle.words.proofs.CopyLoops.{begun_none, begun_more, begun_done}
 use native.Mathlib.Omega.{arith}
 use Rattle.words.proofs.copying.copy_run.Goals as goal

@@ -1,5 +1,4 @@
 -- `words::copying::move_down` meets its contract.
-use Prim.Native.Nat.{◌-◌}
 use Rattle.words.proofs.CopyLoops.{begun_none, begun_down, begun_done}
 use native.Mathlib.Omega.{arith}
 use Rattle.words.proofs.copying.move_down.Goals as goal

@@ -1,5 +1,4 @@
 -- `words::equality::equal` meets its contract.
-use Prim.Native.Nat.{◌-◌}
 use Rattle.words.proofs.CompareLoops.{left_none, equal_differ, equal_more, equal_end}
 use Rattle.words.specs.Equality.{equalb}
 use native.Mathlib.Omega.{arith}

@@ -1,5 +1,4 @@
 -- `words::ordering::compare` meets its contract.
-use Prim.Native.Nat.{◌-◌}
 use Rattle.words.proofs.CompareLoops.{left_none, compare_less, compare_greater, compare_more, compare_longer, compare_shorter, compare_end}
 use Rattle.words.specs.Order.{order}
 use native.Mathlib.Omega.{arith}

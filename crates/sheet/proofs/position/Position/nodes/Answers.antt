@@ -1,5 +1,4 @@
 -- `sheet::position::Position::nodes` meets its contract.
-use Prim.Native.Nat.{◌-◌}
 use Rattle.sheet.proofs.SheetLaws.{reading_start, reading_end, reading_bad, reading_more}
 use Rattle.sheet.proofs.position.Position.nodes.Goals as goal
 
