@@ -1,8 +1,7 @@
 -- Small things that the definitions are written with.
-use Rattle.std.specs.Prelude.{Bool, List, [], ◌∷◌, ℕ}
+use Rattle.std.specs.Prelude.{List, [], ◌∷◌, ℕ}
 use Rattle.std.proofs.Math.Option.{Option, none, some}
 use Prim.Native.Char.{code}
-use Rattle.words.specs.Order.{pick}
 use Prim.Native.String.{String, [] as ε, ◌∷◌ as ◌▹◌}
 
 -- the bytes of a text, and the numbers of nodes, expressions, names and scopes: three sorts in the code, plain numbers
