@@ -2,6 +2,7 @@
 pub mod Weights
 pub mod Once
 pub mod Nesting
+mod NameWeights
 pub mod Lowering
 pub mod Finishing
 pub mod Merging

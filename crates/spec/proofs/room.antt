@@ -1,4 +1,5 @@
 -- An accepted sheet never runs out of room, nor does any call after it.
+mod IfRoom
 pub mod Room
 pub mod ScopeRoom
 pub mod SheetRoom

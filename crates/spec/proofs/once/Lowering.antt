@@ -13,11 +13,12 @@ use Rattle.spec.specs.Keys.{flag, text}
 use Rattle.spec.specs.Sheet.{Node}
 use Rattle.spec.specs.Module.{InterpolPart, literal_part, interpol, BindingValue, expr, inherit, inherit_from, Bindings, Pat, Expr, missing, apply, reference, with_in, assert_in, NameKind}
 use Rattle.spec.specs.State.{SetId, MergingEntry, Low}
-use Rattle.spec.specs.Scopes.{one_or_none, field_names, field_defaults, pat_fields, interpolated, is_definition, name_at, if_inherited, inherited, if_plain, plain_values, keys_and_values, defined, bound, form}
+use Rattle.spec.specs.Scopes.{one_or_none, field_names, field_defaults, pat_fields, interpolated, if_inherited, inherited, if_plain, plain_values, keys_and_values, bound, form}
 use Rattle.spec.specs.Merge.{lower_opt, desugar}
 use Rattle.spec.specs.Lower.{lower_if_there, lower_part, string_as, lower_string, lower_path, lower_attr, lower_attrpath_opt, lower_name, lower_field, lower_pattern, lower_param, pair, lower_if_else, lower_select, lower_has_attr, lower_float, lower_integer, lower_lambda, lower_let_in, lower_list, lower_bin_op, lower_attr_set, lower_unary_op, lower_ident, lower_as}
 use Rattle.spec.proofs.general.Sums.{sum_by, sum_append, sum_add}
 use Rattle.spec.proofs.once.Once.{entered_by, walked_by}
+use Rattle.spec.proofs.once.NameWeights.{defined_weigh}
 use Rattle.spec.proofs.once.Weights.{Scale, form_weight, MakesWhere, lowers_next, lowers_give, lowers_when, lowers_all, lowers_alloc, lowers_missing, lowers_name}
 
 -- ---- the weights of what an expression is made of
@@ -84,16 +85,6 @@ module _ (σ : Scale) where
       go (inherit e) h = omega arith
       go (inherit_from e) h = omega arith
 
-  defined_weigh : (bs : List (NameId × BindingValue)) → sum_by σ.of_name (defined σ.lowered bs) ≤ sum_by (λ b. σ.of_name b.0) bs
-  unfolding defined
-  defined_weigh [] = omega arith
-  defined_weigh (b ∷ bs) = go (is_definition (name_at σ.lowered b.0).kind) (defined_weigh bs)
-    where
-      go : (c : Bool) → sum_by σ.of_name (defined σ.lowered bs) ≤ sum_by (λ b. σ.of_name b.0) bs
-          → sum_by σ.of_name (pick c (b.0 ∷ defined σ.lowered bs) (defined σ.lowered bs)) ≤ σ.of_name b.0 + sum_by (λ b. σ.of_name b.0) bs
-      go true h = omega arith
-      go false h = omega arith
-
   -- bindings enter and are walked to no more than they weigh
   pub bound_weigh : (bs : Bindings) (body : Option ExprId)
       → sum_by σ.of_name (entered_by σ.lowered (bound bs body)) + sum_by σ.weight (walked_by (bound bs body)) ≤ bindings_weight bs + opt_weight body
@@ -105,7 +96,7 @@ module _ (σ : Scale) where
       let j = sum_append c (keys_and_values bs.dynamics) (one_or_none body) in
       let d = dynamics_weigh bs.dynamics in
       let v = values_weigh bs.statics in
-      let n = defined_weigh bs.statics in
+      let n = defined_weigh σ bs.statics in
       let s = sum_add (λ (b : NameId × BindingValue). σ.of_name b.0) (λ (b : NameId × BindingValue). value_weight b.1) bs.statics in
       omega arith
 

@@ -25,6 +25,7 @@ use Rattle.spec.specs.Lower.{lower_if_there, lower_part, string_as, lower_string
 use Rattle.spec.proofs.steps.Forest.{NestedOnce}
 use Rattle.spec.proofs.steps.Through.{Through, through_entry}
 use Rattle.spec.proofs.steps.Adds.{Added, Adds, adds_give, adds_more, adds_then, adds_when, adds_expr, adds_missing, adds_name, Merges, merges_after, merges_more, merges_then, merges_when, merges_asks, merges_give, Over, Merged, merged_more, merged_entry, adds_own_set}
+use Rattle.spec.proofs.room.IfRoom.{if_last}
 use Rattle.spec.proofs.steps.Finish.{finish_adds, finish_expr_adds}
 use Rattle.spec.proofs.tree.Subtrees.{Sub, Here, Place, absent, here, Items, done, item, sub_more, sub_le, place_le, items_le, one_of, two_of, three_of, items_of_lem, one_then_of, walked_all}
 use Rattle.spec.proofs.steps.RoomMerging.{value_merges, finds_then, nested_finds, nested_there}
@@ -171,7 +172,7 @@ module _ (nodes : List Node) (b : ℕ) (lower : NodeId → Low ExprId) (merge : 
         let i = place_le nodes o.first in
         let j = place_le nodes o.second in
         let k = place_le nodes o.third in
-        adds_more _ _ (omega (arith, o.ends)) (omega (arith, o.ends)) (adds_then (opt_adds o.first) λ x. adds_then (opt_adds o.second) λ y. adds_then (opt_adds o.third) λ z. adds_expr _ _)
+        adds_more _ _ (omega (arith, o.ends)) (omega (arith, o.ends)) (adds_then (opt_adds o.first) λ x. adds_then (opt_adds o.second) λ y. if_last x y (pointer nodes n) (opt_adds o.third))
 
     pub select_adds : (n h : ℕ) → Sub nodes (suc b) n h → kind nodes n ≡ 3 → Adds ss es 1 (4 * (h - n) + 4) (h - n) (lower_select nodes lower merge n)
     unfolding lower_select kind_of kinds
