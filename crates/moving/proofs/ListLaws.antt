@@ -1,7 +1,7 @@
 -- The list of what moves, as far as it is counted or written. Assumes nothing.
 use mathlib.Core.Path.{◌≡◌, refl, sym, ap, ◌∙◌}
 use mathlib.Core.Bool.{Bool, true, false}
-use mathlib.Core.List.{List, [], ◌∷◌}
+use mathlib.Core.List.{List, []}
 use mathlib.Core.Option.{none}
 use Prim.Native.Nat.{ℕ, suc, ◌+◌, ◌*◌, ◌≤◌, ◌<◌}
 use native.Mathlib.Nat.{zero-add}
@@ -13,8 +13,7 @@ use Rattle.spec.specs.Module.{missing}
 use Rattle.spec.specs.Calls.{Place}
 use Rattle.spec.specs.Moved.{cons_if, passing, differing}
 use Rattle.spec.specs.Kept.{Kept, moved_by}
-use Rattle.spec.proofs.general.Sums.{compared}
-use Rattle.spec.proofs.change.MovedLaws.{passing_none}
+use Rattle.spec.proofs.change.MovedLaws.{passing_single}
 use Rattle.layout.specs.Rows.{set_all}
 use Rattle.layout.proofs.WriteLaws.{length_all}
 use Rattle.moving.specs.Moving.{differs}
@@ -29,28 +28,6 @@ cons_write : (b : Bool) (e : ℕ) (es buffer : List ℕ) (at : ℕ) → set_all 
 unfolding cons_if set_all
 cons_write true e es buffer at = refl
 cons_write false e es buffer at = let z : at + 4 * 0 ≡ at = omega arith in rw z
-
--- a test that one alone can pass
-passing_single : {A : Type 0} (p : ExprId → Bool) (n : ExprId) → ((e : ExprId) → p e ≡ true → e ≡ n) → (i : ℕ) (xs : List A) → i ≤ n → n < i + length xs → passing p i xs ≡ cons_if (p n) n []
-unfolding passing cons_if
-passing_single p n only i [] l h = absurd (omega arith)
-passing_single p n only i (x ∷ xs) l h = go (p i) refl (λ m. passing_single p n only (suc i) xs m (omega arith))
-  where
-    fails : (j : ℕ) → (j ≡ n → ⊥) → p j ≡ false
-    fails j k = pick (p j) refl
-      where
-        pick : (b : Bool) → p j ≡ b → p j ≡ false
-        pick true u = absurd (k (only j u))
-        pick false u = u
-
-    go : (b : Bool) → p i ≡ b → (suc i ≤ n → passing p (suc i) xs ≡ cons_if (p n) n []) → cons_if (p i) i (passing p (suc i) xs) ≡ cons_if (p n) n []
-    go true u more =
-        let here = only i u in
-        rw (passing_none p (suc i) xs (λ j k. fails (suc i + j) (λ z. omega arith)), here)
-    go false u more =
-        compared i n
-        (λ here. rw (passing_none p (suc i) xs (λ j k. fails (suc i + j) (λ z. omega arith)), here))
-        (λ before. rw u (more (omega arith)))
 
 module _ (k : Kept) (p : Place) (t : Text) where
   -- what moves among the expressions from e on

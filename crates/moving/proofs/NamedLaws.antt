@@ -1,12 +1,12 @@
 -- Which References a new text of a name may move. Assumes nothing.
-use mathlib.Core.Path.{◌≡◌, refl, sym, ap, ◌∙◌}
+use mathlib.Core.Path.{◌≡◌, sym, ap, ◌∙◌}
 use mathlib.Core.Bool.{Bool, true, false, ◌||◌, not}
 use mathlib.Core.List.{List}
 use mathlib.Core.Option.{Option, some}
 use Prim.Native.Nat.{ℕ}
 use borrow.Author.Tests.{not-true, not-false}
 use Rattle.words.specs.Equality.{equalb}
-use Rattle.words.proofs.EqualityLaws.{equalb_refl, equalb_true, equalb_false, equalb_other}
+use Rattle.words.proofs.EqualityLaws.{equalb_sym}
 use Rattle.spec.specs.Basics.{Text, ExprId}
 use Rattle.spec.specs.Scopes.{expr_at, name_at}
 use Rattle.spec.specs.Answer.{reference_text, scope_of_expr}
@@ -21,14 +21,6 @@ use Rattle.module.specs.declared.ids.MaybeScope.{MaybeScope}
 use Rattle.module.specs.Ids.{scope_of}
 use Rattle.moving.specs.Moving.{About}
 use Rattle.moving.specs.declared.named.Named.{Named}
-
--- which of two lists comes first does not matter
-turned : (xs ys : List ℕ) → equalb xs ys ≡ equalb ys xs
-turned xs ys = go (equalb xs ys) refl
-  where
-    go : (b : Bool) → equalb xs ys ≡ b → b ≡ equalb ys xs
-    go true p = rw (equalb_true xs ys p) (sym (equalb_refl ys))
-    go false p = sym (equalb_other ys xs (λ e. equalb_false xs ys p (sym e)))
 
 abbrev either : Text → Text → Option Text → Bool
 either old new o = bears old o || bears new o
@@ -49,7 +41,7 @@ module _ (s : List ℕ) (e : ExprId) (old new : Text) (r : MaybeText) (h : maybe
 
     pub bears_new : (b : Bool) → a ≡ false → b ≡ equalb (text_in s k) new → b ≡ either old new (reference_text (expr_at (module_in s) e))
     unfolding bears
-    bears_new b z second = second ∙ turned (text_in s k) new ∙ ap (λ (c : Bool). c || equalb new (text_in s k)) (sym z ∙ first) ∙ borne
+    bears_new b z second = second ∙ equalb_sym (text_in s k) new ∙ ap (λ (c : Bool). c || equalb new (text_in s k)) (sym z ∙ first) ∙ borne
 
 module _ (s : List ℕ) (x : Named) (about : About s x) (new : Text) (e : ExprId) (b : Bool)
     (borne : b ≡ either (text_in s x.text.0) new (reference_text (expr_at (module_in s) e))) where

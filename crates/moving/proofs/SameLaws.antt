@@ -1,7 +1,7 @@
 -- Answers held against each other. Assumes nothing.
 use Rattle.std.specs.Prelude.{if◌then◌else◌}
 use mathlib.Core.Path.{◌≡◌, refl, sym, ap, ◌∙◌}
-use mathlib.Core.Bool.{Bool, true, false, ◌&&◌}
+use mathlib.Core.Bool.{Bool, true, false, ◌&&◌, and-true}
 use mathlib.Core.List.{List}
 use mathlib.Core.Option.{none, some}
 use Prim.Native.Nat.{ℕ}
@@ -23,10 +23,6 @@ use Rattle.answer.specs.Told.{number_of, value_of, Tells}
 use Rattle.kept.specs.Answers.{withs_at}
 use Rattle.moving.specs.Moving.{SameHere, OtherThan}
 use Rattle.moving.specs.declared.moved.Moved.TheVariants.{To, Stays}
-
-and-true : (b : Bool) → b && true ≡ b
-and-true true = refl
-and-true false = refl
 
 -- answers at one place are the same where their numbers and their values are
 by_numbers : (a b : Answer) (es : List ExprId)
