@@ -6,9 +6,8 @@ use Prim.Native.Nat.{ℕ}
 use Rattle.spec.specs.Answer as spec
 use Rattle.answer.specs.declared.answer.Answer.{Answer}
 use Rattle.answer.specs.declared.answer.Answer.TheVariants.{Unresolved, Definition, Builtin, Withs}
-use Rattle.answer.specs.declared.answer.MaybeAnswer.{MaybeAnswer}
-use Rattle.answer.specs.declared.answer.MaybeAnswer.TheVariants.{Kept as Is, Absent}
 use Rattle.answer.specs.Answers.{answer_with, maybe_with, meant_by, meant}
+use Rattle.std.specs.Prelude as rust
 
 meant_with : (a : Answer) (es : List ℕ) → meant (some (answer_with a es)) ≡ meant_by a
 unfolding meant meant_by answer_with
@@ -17,10 +16,10 @@ meant_with (Definition x) es = refl
 meant_with (Builtin i) es = refl
 meant_with Withs es = refl
 
-pub meant_kept : (r : MaybeAnswer) (a : Answer) (es : List ℕ) (k : Option spec.Answer) (o : Option ℕ) → r ≡ Is a → maybe_with r es ≡ k → o ≡ meant_by a → o ≡ meant k
+pub meant_kept : (r : rust.Option Answer) (a : Answer) (es : List ℕ) (k : Option spec.Answer) (o : Option ℕ) → r ≡ rust.Some a → maybe_with r es ≡ k → o ≡ meant_by a → o ≡ meant k
 unfolding maybe_with
-meant_kept r a es k o q e p = p ∙ sym (meant_with a es) ∙ ap meant (ap (λ (z : MaybeAnswer). maybe_with z es) (sym q) ∙ e)
+meant_kept r a es k o q e p = p ∙ sym (meant_with a es) ∙ ap meant (ap (λ (z : rust.Option Answer). maybe_with z es) (sym q) ∙ e)
 
-pub meant_absent : (r : MaybeAnswer) (es : List ℕ) (k : Option spec.Answer) → r ≡ Absent → maybe_with r es ≡ k → none ≡ meant k
+pub meant_absent : (r : rust.Option Answer) (es : List ℕ) (k : Option spec.Answer) → r ≡ rust.None → maybe_with r es ≡ k → none ≡ meant k
 unfolding maybe_with meant
-meant_absent r es k q e = ap meant (ap (λ (z : MaybeAnswer). maybe_with z es) (sym q) ∙ e)
+meant_absent r es k q e = ap meant (ap (λ (z : rust.Option Answer). maybe_with z es) (sym q) ∙ e)

@@ -5,8 +5,7 @@ use Rattle.spec.specs.Basics.{ExprId, NameId}
 use Rattle.spec.specs.Answer as spec
 use Rattle.answer.specs.declared.answer.Answer.{Answer}
 use Rattle.answer.specs.declared.answer.Answer.TheVariants.{Unresolved, Definition, Builtin, Withs}
-use Rattle.answer.specs.declared.answer.MaybeAnswer.{MaybeAnswer}
-use Rattle.answer.specs.declared.answer.MaybeAnswer.TheVariants.{Kept as Is, Absent}
+use Rattle.std.specs.Prelude as rust
 
 -- ---- the list of its Withs is no part of it
 unfoldable pub answer_with : Answer → List ExprId → spec.Answer
@@ -15,9 +14,9 @@ answer_with (Definition x) es = spec.definition x.0
 answer_with (Builtin i) es = spec.builtin i
 answer_with Withs es = spec.withs es
 
-unfoldable pub maybe_with : MaybeAnswer → List ExprId → Option spec.Answer
-maybe_with (Is a) es = some (answer_with a es)
-maybe_with Absent es = none
+unfoldable pub maybe_with : rust.Option Answer → List ExprId → Option spec.Answer
+maybe_with (rust.Some a) es = some (answer_with a es)
+maybe_with rust.None es = none
 
 -- ---- the name that an answer means: of the code's, and of the definitions'
 unfoldable pub meant_by : Answer → Option NameId

@@ -3,7 +3,7 @@ ghost use Rattle.std.specs.Prelude.{◌≡◌};
 ghost use Rattle.module.specs.Ids.{name_of};
 ghost use Rattle.answer.specs.Answers.{meant_by};
 
-use module::{MaybeName, NameId};
+use module::NameId;
 
 // What a Reference means.
 #[derive(Clone, Copy)]
@@ -14,20 +14,14 @@ pub enum Answer {
     Withs,
 }
 
-#[derive(Clone, Copy)]
-pub enum MaybeAnswer {
-    Kept(Answer),
-    Absent,
-}
-
 // The name of an answer: none where it is no definition.
-pub fn name_of_answer(a: Answer) -> MaybeName
+pub fn name_of_answer(a: Answer) -> Option<NameId>
     ensures { name_of result ≡ meant_by a }
 {
     match a {
-        Answer::Unresolved => MaybeName::Absent,
-        Answer::Definition(x) => MaybeName::Name(x),
-        Answer::Builtin(_) => MaybeName::Absent,
-        Answer::Withs => MaybeName::Absent,
+        Answer::Unresolved => None,
+        Answer::Definition(x) => Some(x),
+        Answer::Builtin(_) => None,
+        Answer::Withs => None,
     }
 }

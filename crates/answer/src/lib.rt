@@ -8,6 +8,6 @@ mod answer;
 mod told;
 mod word;
 
-pub use answer::{Answer, MaybeAnswer, name_of_answer};
+pub use answer::{Answer, name_of_answer};
 pub use told::{answer_number, answer_value};
 pub use word::{answer_of, answer_word};

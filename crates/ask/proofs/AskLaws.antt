@@ -14,8 +14,6 @@ use Rattle.layout.specs.Keeps.{scopes_in, kept_in}
 use Rattle.soundness.specs.Sound.{condition_of}
 use Rattle.answer.specs.declared.answer.Answer.{Answer}
 use Rattle.answer.specs.declared.answer.Answer.TheVariants.{Withs}
-use Rattle.answer.specs.declared.answer.MaybeAnswer.{MaybeAnswer}
-use Rattle.answer.specs.declared.answer.MaybeAnswer.TheVariants.{Kept as Is, Absent}
 use Rattle.answer.specs.Answers.{answer_with, maybe_with}
 use Rattle.kept.specs.Answers.{withs_at}
 use Rattle.resolve.specs.Withs.{Lists}
@@ -23,6 +21,7 @@ use Rattle.replies.specs.Replies.{list_of, buffer_after, Told, ToldList, ToldAns
 use Rattle.requests.specs.Requests.{outcome_in, own_outcome, Asked}
 use Rattle.nameres.proofs.StepLaws.{exprs_many}
 use Rattle.requests.proofs.StateLaws.{state_passed, names_counted, told_asked, refused_asked}
+use Rattle.std.specs.Prelude as rust
 
 -- ---- the list that belongs to an answer
 pub no_list : (a known : Answer) (es : List ExprId) (b : List ℕ) → a ≡ known → with_list (answer_with known es) ≡ [] → Lists (with_list (answer_with a es)) b 0 b
@@ -45,17 +44,17 @@ module _ (s b p : List ℕ) (n : ℕ) (fits : condition_of s ≡ fit) (long : re
       refused_asked (ask_reference n (length b) (length p)) s b p r b p' 24 n
       (own_reference ∙ rw (le-leb (length (kept_in s).lowered.exprs) n (omega (arith, l, counted, exprs_many s)))) t refl
 
-  module _ (there : n < k) (m : MaybeAnswer) (says : maybe_with m (withs_at (scopes_in s) n) ≡ kept_answer (kept_in s) n) where
+  module _ (there : n < k) (m : rust.Option Answer) (says : maybe_with m (withs_at (scopes_in s) n) ≡ kept_answer (kept_in s) n) where
     from_kept : outcome_in s (ask_reference n (length b) (length p))
         ≡ give_answer (kept_in s).lowered (kept_answer (kept_in s)) (kept_references (kept_in s)) (kept_in s).spent (kept_moved (kept_in s)) n (length b) (maybe_with m (withs_at (scopes_in s) n))
     unfolding answer_call check
     from_kept = own_reference ∙ rw (lt-leb (length (kept_in s).lowered.exprs) n (omega (arith, there, counted, exprs_many s)), says)
 
-    pub no_answer : m ≡ Absent → (r : ℕ) (p' : List ℕ) → Told (refusal 25 n) p r p' → Asked (ask_reference n (length b) (length p)) s b p r b p'
+    pub no_answer : m ≡ rust.None → (r : ℕ) (p' : List ℕ) → Told (refusal 25 n) p r p' → Asked (ask_reference n (length b) (length p)) s b p r b p'
     unfolding give_answer maybe_with
     no_answer q r p' t = refused_asked (ask_reference n (length b) (length p)) s b p r b p' 25 n (from_kept ∙ rw q) t refl
 
-    module _ (a : Answer) (q : m ≡ Is a) (count : ℕ) (b' : List ℕ) (lists : Lists (with_list (answer_with a (withs_at (scopes_in s) n))) b count b') where
+    module _ (a : Answer) (q : m ≡ rust.Some a) (count : ℕ) (b' : List ℕ) (lists : Lists (with_list (answer_with a (withs_at (scopes_in s) n))) b count b') where
       from_answer : outcome_in s (ask_reference n (length b) (length p))
           ≡ in_buffer (kept_in s).lowered (kept_answer (kept_in s)) (kept_references (kept_in s)) (kept_in s).spent (kept_moved (kept_in s)) (length b) (with_list (answer_with a (withs_at (scopes_in s) n))) (answered (answer_with a (withs_at (scopes_in s) n)))
       unfolding give_answer maybe_with

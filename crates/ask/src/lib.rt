@@ -14,7 +14,7 @@ ghost use Rattle.kept.specs.Answers.{withs_at};
 ghost use Rattle.resolve.specs.Withs.{Lists};
 ghost use Rattle.requests.specs.Requests.{Asked};
 
-use answer::{Answer, MaybeAnswer};
+use answer::Answer;
 use kept::kept_answer;
 use layout::wide;
 use module::{ExprId, NameId};
@@ -45,7 +45,7 @@ fn tell_reference(store: &[u8], number: u32, buffer: &mut [u8], reply: &mut [u8]
     if expr_count(store) <= number {
         return refuse(reply, 24, number);
     }
-    let MaybeAnswer::Kept(a) = kept_answer(store, ExprId(number)) else {
+    let Some(a) = kept_answer(store, ExprId(number)) else {
         return refuse(reply, 25, number);
     };
     let room = buffer.len();

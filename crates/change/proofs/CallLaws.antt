@@ -25,13 +25,13 @@ use Rattle.soundness.specs.Sound.{condition_of}
 use Rattle.soundness.proofs.ConditionLaws.{fit_sound}
 use Rattle.put_text.specs.Changed.{Changeable, Changes}
 use Rattle.put_text.proofs.ConditionLaws.{changed_sound}
-use Rattle.module.specs.declared.ids.MaybeText.{MaybeText}
-use Rattle.module.specs.declared.ids.MaybeText.TheVariants as maybe_text_lem
 use Rattle.replies.specs.Replies.{list_of, buffer_after, Told, ToldMoved}
 use Rattle.requests.specs.Requests.{outcome_in, own_outcome, Leaves, Changed}
 use Rattle.nameres.proofs.StepLaws.{exprs_many}
 use Rattle.change.proofs.JudgeLaws.{changed_is, moved_is, moved_none, text_read_lem}
 use Rattle.requests.proofs.StateLaws.{state_passed, names_counted, equal_leaves, told_changed, refused_changed}
+use Rattle.module.specs.declared.ids.TextId as rust_text_id
+use Rattle.std.specs.Prelude as rust
 
 -- ---- the text of a call that names something there is
 abbrev text_outcome : List ℕ → Call → Outcome
@@ -106,7 +106,7 @@ module _ (s b : List ℕ) (n : ℕ) (text : Text) (fits : condition_of s ≡ fit
           fits = omega arith;
         }
 
-  pub reference_changeable : (m : MaybeText) → maybe_text s m ≡ reference_text (expr_at (module_in s) n) → (h : ℕ) → m ≡ maybe_text_lem.Text (record { 0 = h })
+  pub reference_changeable : (m : rust.Option rust_text_id.TextId) → maybe_text s m ≡ reference_text (expr_at (module_in s) n) → (h : ℕ) → m ≡ rust.Some (record { 0 = h })
       → (same : Bool) → same ≡ equalb (text_in s h) text → same ≡ false → (full : Bool) → full ≡ ltb room_limit ((kept_in s).spent + length text) → full ≡ false
       → (i : ℕ) → i ≡ length (moved_by (kept_in s) (at_reference n) text) → 4 * i ≤ length b → Changeable (at_reference n) text s b
   unfolding kept_in or_empty
@@ -131,19 +131,19 @@ module _ (s b p : List ℕ) (n : ℕ) (text : Text) (fits : condition_of s ≡ f
   unfolding answer_call check
   no_expr l r p' t = refused_changed a_reference s b p r p' 24 n (own_reference ∙ rw (le-leb (length (kept_in s).lowered.exprs) n (omega (arith, l, counted, exprs_many s)))) t
 
-  module _ (there : n < k) (m : MaybeText) (says : maybe_text s m ≡ reference_text (expr_at (module_in s) n)) where
+  module _ (there : n < k) (m : rust.Option rust_text_id.TextId) (says : maybe_text s m ≡ reference_text (expr_at (module_in s) n)) where
     from_text_lem : outcome_in s a_reference
         ≡ if_reference (kept_in s).lowered (kept_answer (kept_in s)) (kept_references (kept_in s)) (kept_in s).spent (kept_moved (kept_in s)) n (reference_text (expr_at (module_in s) n)) (text_outcome s a_reference)
     unfolding answer_call check kept_in
     from_text_lem = own_reference ∙ rw (lt-leb (length (kept_in s).lowered.exprs) n (omega (arith, there, counted, exprs_many s)))
 
-    pub no_reference : m ≡ maybe_text_lem.Absent → (r : ℕ) (p' : List ℕ) → Told (refusal 25 n) p r p' → Changed a_reference s b p r s b p'
+    pub no_reference : m ≡ rust.None → (r : ℕ) (p' : List ℕ) → Told (refusal 25 n) p r p' → Changed a_reference s b p r s b p'
     unfolding if_reference maybe_text
     no_reference q r p' t =
         let lost : reference_text (expr_at (module_in s) n) ≡ none = sym says ∙ ap (maybe_text s) q in
         refused_changed a_reference s b p r p' 25 n (from_text_lem ∙ rw lost) t
 
-    module _ (h : ℕ) (q : m ≡ maybe_text_lem.Text (record { 0 = h })) where
+    module _ (h : ℕ) (q : m ≡ rust.Some (record { 0 = h })) where
       reads : reference_text (expr_at (module_in s) n) ≡ some (text_in s h)
       reads = text_read_lem s n m says h q
 

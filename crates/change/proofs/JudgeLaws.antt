@@ -23,8 +23,6 @@ use Rattle.layout.specs.Texts.{text_in, maybe_text}
 use Rattle.layout.specs.States.{exprs_of, names_of, module_in}
 use Rattle.layout.specs.Keeps.{kept_in}
 use Rattle.moving.specs.Moving.{Refers}
-use Rattle.module.specs.declared.ids.MaybeText.{MaybeText}
-use Rattle.module.specs.declared.ids.MaybeText.TheVariants as maybe_text_lem
 use Rattle.requests.specs.Requests.{own_outcome}
 use Rattle.nameres.proofs.StepLaws.{exprs_many}
 use Rattle.requests.proofs.StateLaws.{names_counted}
@@ -33,6 +31,8 @@ use Rattle.change.specs.declared.new_text.NewText.{NewText}
 use Rattle.change.specs.declared.new_text.NewText.TheVariants.{Unfit, Same, Other}
 use Rattle.change.specs.declared.judging.Verdict.{Verdict}
 use Rattle.change.specs.declared.judging.Verdict.TheVariants.{Refused, Equal, Moves}
+use Rattle.module.specs.declared.ids.TextId as rust_text_id
+use Rattle.std.specs.Prelude as rust
 
 -- ---- what a change moves
 -- where its text is another, that is what the text moves at its place
@@ -162,12 +162,12 @@ module _ (c : ℕ → Call) (p : Place) (t : Text) (bytes : ℕ) (s : List ℕ) 
             })
 
 -- ---- of a Reference
-pub text_read_lem : (s : List ℕ) (n : ℕ) (m : MaybeText) → maybe_text s m ≡ reference_text (expr_at (module_in s) n) → (h : ℕ) → m ≡ maybe_text_lem.Text (record { 0 = h })
+pub text_read_lem : (s : List ℕ) (n : ℕ) (m : rust.Option rust_text_id.TextId) → maybe_text s m ≡ reference_text (expr_at (module_in s) n) → (h : ℕ) → m ≡ rust.Some (record { 0 = h })
     → reference_text (expr_at (module_in s) n) ≡ some (text_in s h)
 unfolding maybe_text
 text_read_lem s n m says h q = sym says ∙ ap (maybe_text s) q
 
-pub refers_to : (s : List ℕ) (n : ℕ) (m : MaybeText) → maybe_text s m ≡ reference_text (expr_at (module_in s) n) → (h : ℕ) → m ≡ maybe_text_lem.Text (record { 0 = h }) → Refers n s
+pub refers_to : (s : List ℕ) (n : ℕ) (m : rust.Option rust_text_id.TextId) → maybe_text s m ≡ reference_text (expr_at (module_in s) n) → (h : ℕ) → m ≡ rust.Some (record { 0 = h }) → Refers n s
 refers_to s n m says h q = record { text = text_in s h; is = text_read_lem s n m says h q }
 
 module _ (s : List ℕ) (n : ℕ) (t : Text) (bytes k : ℕ) (counted : k ≡ length (exprs_of s)) where
@@ -175,19 +175,19 @@ module _ (s : List ℕ) (n : ℕ) (t : Text) (bytes k : ℕ) (counted : k ≡ le
   unfolding answer_call check
   no_expr l = refuses _ _ _ _ s 24 n (λ reply. rw (le-leb (length (kept_in s).lowered.exprs) n (omega (arith, l, counted, exprs_many s))))
 
-  module _ (there : n < k) (m : MaybeText) (says : maybe_text s m ≡ reference_text (expr_at (module_in s) n)) where
+  module _ (there : n < k) (m : rust.Option rust_text_id.TextId) (says : maybe_text s m ≡ reference_text (expr_at (module_in s) n)) where
     is_expr : (reply : ℕ) → own_outcome s (change_reference n t bytes reply)
         ≡ if_reference (kept_in s).lowered (kept_answer (kept_in s)) (kept_references (kept_in s)) (kept_in s).spent (kept_moved (kept_in s)) n (reference_text (expr_at (module_in s) n)) (from_text s (change_reference n t bytes reply))
     unfolding answer_call check kept_in
     is_expr reply = rw (lt-leb (length (kept_in s).lowered.exprs) n (omega (arith, there, counted, exprs_many s)))
 
-    pub no_reference : m ≡ maybe_text_lem.Absent → Judges (change_reference n t bytes) (at_reference n) t bytes s (Refused 25 n)
+    pub no_reference : m ≡ rust.None → Judges (change_reference n t bytes) (at_reference n) t bytes s (Refused 25 n)
     unfolding if_reference maybe_text
     no_reference q =
         let lost : reference_text (expr_at (module_in s) n) ≡ none = sym says ∙ ap (maybe_text s) q in
         refuses _ _ _ _ s 25 n (λ reply. is_expr reply ∙ rw lost)
 
-    module _ (h : ℕ) (q : m ≡ maybe_text_lem.Text (record { 0 = h })) where
+    module _ (h : ℕ) (q : m ≡ rust.Some (record { 0 = h })) where
       sets_reference : Sets (change_reference n t bytes) (at_reference n) t bytes s h
       unfolding old_text new_text buffer_of kept_with if_reference or_empty kept_in
       sets_reference =

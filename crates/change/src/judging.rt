@@ -8,7 +8,7 @@ ghost use Rattle.change.specs.declared.judging.Verdict.TheVariants.{Refused, Mov
 
 use crate::new_text::{NewText, judge_text};
 use layout::wide;
-use module::{ExprId, MaybeText, NameId};
+use module::{ExprId, NameId, TextId};
 use moving::{count_moved_by_name, count_moved_by_reference};
 use rows::{expr_count, name_count, name_text, reference_text};
 
@@ -38,7 +38,7 @@ pub fn judge_reference(store: &[u8], number: u32, text: &[u8], bytes: usize) -> 
     if expr_count(store) <= number {
         return Verdict::Refused(24, number);
     }
-    let MaybeText::Text(held) = reference_text(store, ExprId(number)) else {
+    let Some(held) = reference_text(store, ExprId(number)) else {
         return Verdict::Refused(25, number);
     };
     match judge_text(store, held, text) {

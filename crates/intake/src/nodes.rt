@@ -11,7 +11,7 @@ ghost use Rattle.module.specs.Ids.{node_of, pointer_of};
 
 use layout::at_most;
 use layout::tables::{ABSENT, KID_LIMIT, KIDS, NODE_COUNT, NODE_LIMIT, NODE_ROW, NODES};
-use module::{MaybeNode, NodeId, Pointer, TextId};
+use module::{NodeId, Pointer, TextId};
 use words::get32;
 
 pub const KIND: usize = 4;
@@ -101,23 +101,23 @@ pub fn kid_count(store: &[u8], n: NodeId) -> u32
 }
 
 // The kid at a place of the kids.
-fn kid_at(store: &[u8], at: u32) -> MaybeNode
+fn kid_at(store: &[u8], at: u32) -> Option<NodeId>
     requires { Long store.now × (at < kid_limit) }
     ensures { node_of result ≡ kid_in store.now at }
 {
     let k = get32(store, KIDS + 4 * (at as usize));
     if k == ABSENT {
-        return MaybeNode::Absent;
+        return None;
     }
-    MaybeNode::Node(NodeId(k))
+    Some(NodeId(k))
 }
 
-pub fn kid(store: &[u8], n: NodeId, i: u32) -> MaybeNode
+pub fn kid(store: &[u8], n: NodeId, i: u32) -> Option<NodeId>
     requires { Long store.now }
     ensures { node_of result ≡ kid (nodes_of store.now) i n.0 }
 {
     if kid_count(store, n) <= i {
-        return MaybeNode::Absent;
+        return None;
     }
     kid_at(store, first_kid(store, n.0) + i)
 }

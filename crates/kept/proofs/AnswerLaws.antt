@@ -19,7 +19,6 @@ use Rattle.spec.specs.Answer.{chain, withs_of, scope_of_expr}
 use Rattle.spec.specs.Kept.{Kept, kept_answer}
 use Rattle.answer.specs.declared.answer.Answer.{Answer}
 use Rattle.answer.specs.declared.answer.Answer.TheVariants.{Unresolved, Definition, Builtin, Withs}
-use Rattle.answer.specs.declared.answer.MaybeAnswer.TheVariants.{Kept as Is, Absent}
 use Rattle.answer.specs.Answers.{answer_with, maybe_with}
 use Rattle.answer.specs.Words.{answer_of_word, answer_word}
 use Rattle.answer.proofs.WordLaws.{word_zero, word_one}
@@ -36,6 +35,7 @@ use Rattle.layout.proofs.WriteLaws.{still_set_word}
 use Rattle.kept.proofs.ScopeReads.{of_expr_in}
 use Rattle.kept.proofs.ScopeLaws.{scopes_same, placed_by, scopes_are}
 use Rattle.kept.proofs.KeepFrames.{answer_same, module_kept, references_kept}
+use Rattle.std.specs.Prelude as rust
 
 -- ---- what a word says
 withs_are : (v : Scopes) (o : Option ℕ) → withs_around v o ≡ spec.withs (withs_in v o)
@@ -94,17 +94,17 @@ kept_in_lem : (s : List ℕ) (e : ℕ) → e < cap (word s expr_count) expr_limi
 unfolding kept_answer kept_in
 kept_in_lem s e h = get_d_rows (answer_in s) (cap (word s expr_count) expr_limit) e none h
 
-pub kept_out : (s : List ℕ) (e n : ℕ) (es : List ℕ) → n ≡ cap (word s expr_count) expr_limit → n ≤ e → maybe_with Absent es ≡ kept_answer (kept_in s) e
+pub kept_out : (s : List ℕ) (e n : ℕ) (es : List ℕ) → n ≡ cap (word s expr_count) expr_limit → n ≤ e → maybe_with rust.None es ≡ kept_answer (kept_in s) e
 unfolding kept_answer kept_in maybe_with
 kept_out s e n es en h = sym (get_d_past (answer_in s) (cap (word s expr_count) expr_limit) e none (rw (← en) h))
 
-pub kept_other : (s : List ℕ) (e n k : ℕ) (es : List ℕ) → n ≡ cap (word s expr_count) expr_limit → e < n → k ≡ word s (exprs_at + expr_row * e + 4) → (k ≡ 21 → ⊥) → maybe_with Absent es ≡ kept_answer (kept_in s) e
+pub kept_other : (s : List ℕ) (e n k : ℕ) (es : List ℕ) → n ≡ cap (word s expr_count) expr_limit → e < n → k ≡ word s (exprs_at + expr_row * e + 4) → (k ≡ 21 → ⊥) → maybe_with rust.None es ≡ kept_answer (kept_in s) e
 unfolding answer_in sort_of maybe_with
 kept_other s e n k es en h ek ne =
     let z : word s (exprs_at + expr_row * e + 4) ≡ 21 → ⊥ = λ q. ne (ek ∙ q) in
     rw (kept_in_lem s e (rw (← en) h), ne_eqb (word s (exprs_at + expr_row * e + 4)) 21 z)
 
-pub kept_is : (s : List ℕ) (e n k w : ℕ) (a : Answer) → n ≡ cap (word s expr_count) expr_limit → e < n → k ≡ word s (exprs_at + expr_row * e + 4) → k ≡ 21 → w ≡ word s (uses_at + use_row * e + 4) → a ≡ answer_of_word w → maybe_with (Is a) (withs_at (scopes_in s) e) ≡ kept_answer (kept_in s) e
+pub kept_is : (s : List ℕ) (e n k w : ℕ) (a : Answer) → n ≡ cap (word s expr_count) expr_limit → e < n → k ≡ word s (exprs_at + expr_row * e + 4) → k ≡ 21 → w ≡ word s (uses_at + use_row * e + 4) → a ≡ answer_of_word w → maybe_with (rust.Some a) (withs_at (scopes_in s) e) ≡ kept_answer (kept_in s) e
 unfolding answer_in sort_of maybe_with withs_at scope_of
 kept_is s e n k w a en h ek eq ew ea =
     let m : e < cap (word s expr_count) expr_limit = rw (← en) h in

@@ -9,7 +9,7 @@ ghost use Rattle.answer.specs.Answers.{maybe_with};
 ghost use Rattle.kept.specs.Answers.{withs_at, Answered};
 
 use crate::limits::in_use;
-use answer::{Answer, MaybeAnswer, answer_of, answer_word};
+use answer::{Answer, answer_of, answer_word};
 use layout::tables::{ABSENT, EXPR_COUNT, EXPR_LIMIT, EXPR_ROW, EXPRS, USE_ROW, USES};
 use layout::wide;
 use module::ExprId;
@@ -18,18 +18,18 @@ use words::{get32, put32};
 const REFERENCE: u32 = 21;
 
 // The answer that is kept for an expression: none for one that is no Reference.
-pub fn kept_answer(store: &[u8], e: ExprId) -> MaybeAnswer
+pub fn kept_answer(store: &[u8], e: ExprId) -> Option<Answer>
     requires { Long store.now }
     ensures { maybe_with result (withs_at (scopes_in store.now) e.0) ≡ kept_answer (kept_in store.now) e.0 }
 {
     let i = e.0;
     if in_use(store, EXPR_COUNT, EXPR_LIMIT) <= i {
-        return MaybeAnswer::Absent;
+        return None;
     }
     if get32(store, EXPRS + EXPR_ROW * wide(i) + 4) != REFERENCE {
-        return MaybeAnswer::Absent;
+        return None;
     }
-    MaybeAnswer::Kept(answer_of(get32(store, USES + USE_ROW * wide(i) + 4)))
+    Some(answer_of(get32(store, USES + USE_ROW * wide(i) + 4)))
 }
 
 // Keeps an answer for the Reference e.

@@ -10,7 +10,7 @@ use crate::limits::in_use;
 use crate::scopes::entered_count;
 use layout::tables::{ENTERED, NAME_LIMIT, SCOPE_COUNT, SCOPE_LIMIT, SCOPE_ROW, SCOPES};
 use layout::wide;
-use module::{MaybeScope, NameId, ScopeId};
+use module::{NameId, ScopeId};
 use words::get32;
 
 // Whether the name x is entered in the scope s. The table is read from the first of its names on.
@@ -31,7 +31,7 @@ fn holds_name(store: &[u8], s: ScopeId, x: NameId) -> bool
 }
 
 // Every entered name is looked at once at most, where the scopes lie one after the other as in a sound store.
-pub fn scope_holding(store: &[u8], x: NameId) -> MaybeScope
+pub fn scope_holding(store: &[u8], x: NameId) -> Option<ScopeId>
     requires { Long store.now }
     ensures { scope_of result ≡ holder (scopes_in store.now) x.0 }
 {
@@ -39,9 +39,9 @@ pub fn scope_holding(store: &[u8], x: NameId) -> MaybeScope
     let mut i: u32 = 0;
     while i < n {
         if holds_name(store, ScopeId(i), x) {
-            return MaybeScope::Scope(ScopeId(i));
+            return Some(ScopeId(i));
         }
         i += 1;
     }
-    MaybeScope::Absent
+    None
 }

@@ -5,7 +5,7 @@ ghost use Rattle.module.specs.Ids.{scope_of, expr_of};
 ghost use Rattle.layout.specs.Rows.{cap, raised};
 
 use layout::at_most;
-use module::{ExprId, MaybeExpr, MaybeScope, ScopeId};
+use module::{ExprId, ScopeId};
 use words::get32;
 
 // The count at `at`, which is at most its limit whatever stands there.
@@ -23,22 +23,14 @@ pub fn less(a: u32, b: u32) -> u32
     if b < a { a - b } else { 0 }
 }
 
-pub fn raised_scope(n: u32) -> MaybeScope
+pub fn raised_scope(n: u32) -> Option<ScopeId>
     ensures { scope_of result ≡ raised n }
 {
-    if n == 0 {
-        MaybeScope::Absent
-    } else {
-        MaybeScope::Scope(ScopeId(n - 1))
-    }
+    if n == 0 { None } else { Some(ScopeId(n - 1)) }
 }
 
-pub fn raised_expr(n: u32) -> MaybeExpr
+pub fn raised_expr(n: u32) -> Option<ExprId>
     ensures { expr_of result ≡ raised n }
 {
-    if n == 0 {
-        MaybeExpr::Absent
-    } else {
-        MaybeExpr::Expr(ExprId(n - 1))
-    }
+    if n == 0 { None } else { Some(ExprId(n - 1)) }
 }

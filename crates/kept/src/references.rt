@@ -14,7 +14,7 @@ ghost use Rattle.kept.specs.References.{Unlisted, Refers, Ended};
 use crate::limits::{in_use, less};
 use layout::tables::{FIRSTS, NAME_COUNT, NAME_LIMIT, REFERENCE_LIMIT, REFERENCES};
 use layout::wide;
-use module::{ExprId, MaybeExpr, NameId};
+use module::{ExprId, NameId};
 use words::{get32, put32};
 
 // How many references there is room for, as a place is.
@@ -36,15 +36,15 @@ pub fn reference_count(store: &[u8], x: NameId) -> u32
 }
 
 // The i-th of them, from 0 on.
-pub fn reference_at(store: &[u8], x: NameId, i: u32) -> MaybeExpr
+pub fn reference_at(store: &[u8], x: NameId, i: u32) -> Option<ExprId>
     requires { Long store.now }
     ensures { expr_of result ≡ get_elem? (kept_references (kept_in store.now) x.0) i }
 {
     if i < reference_count(store, x) {
         let from = in_use(store, FIRSTS + 4 * wide(x.0), REFERENCE_LIMIT);
-        MaybeExpr::Expr(ExprId(get32(store, REFERENCES + 4 * (wide(from) + wide(i)))))
+        Some(ExprId(get32(store, REFERENCES + 4 * (wide(from) + wide(i)))))
     } else {
-        MaybeExpr::Absent
+        None
     }
 }
 

@@ -22,7 +22,7 @@ use layout::tables::{
     USE_ROW, USES,
 };
 use layout::{counter, put_three, wide};
-use module::{Counter, ExprId, MaybeExpr, MaybeName, MaybeScope, NameId, ScopeId};
+use module::{Counter, ExprId, NameId, ScopeId};
 use words::{get32, put32};
 
 // How many names can be entered, as a place is.
@@ -48,14 +48,14 @@ fn scope_word(store: &[u8], s: ScopeId, k: usize) -> u32
     }
 }
 
-pub fn scope_parent(store: &[u8], s: ScopeId) -> MaybeScope
+pub fn scope_parent(store: &[u8], s: ScopeId) -> Option<ScopeId>
     requires { Long store.now }
     ensures { scope_of result ≡ (scope_at (scopes_in store.now).scopes s.0).parent }
 {
     raised_scope(scope_word(store, s, 4))
 }
 
-pub fn scope_with(store: &[u8], s: ScopeId) -> MaybeExpr
+pub fn scope_with(store: &[u8], s: ScopeId) -> Option<ExprId>
     requires { Long store.now }
     ensures { expr_of result ≡ with_of (scope_at (scopes_in store.now).scopes s.0).kind }
 {
@@ -80,20 +80,20 @@ pub fn entered_count(store: &[u8], s: ScopeId) -> u32
 }
 
 // The i-th of them, from 0 on.
-pub fn entered_at(store: &[u8], s: ScopeId, i: u32) -> MaybeName
+pub fn entered_at(store: &[u8], s: ScopeId, i: u32) -> Option<NameId>
     requires { Long store.now }
     ensures { name_of result ≡ get_elem? (names_entered (scope_at (scopes_in store.now).scopes s.0).kind) i }
 {
     if i < entered_count(store, s) {
         let from = in_use(store, SCOPES + SCOPE_ROW * wide(s.0), NAME_LIMIT);
-        MaybeName::Name(NameId(get32(store, ENTERED + 4 * (wide(from) + wide(i)))))
+        Some(NameId(get32(store, ENTERED + 4 * (wide(from) + wide(i)))))
     } else {
-        MaybeName::Absent
+        None
     }
 }
 
 // The scope that an expression stands in; none for one that was not walked.
-pub fn scope_of(store: &[u8], e: ExprId) -> MaybeScope
+pub fn scope_of(store: &[u8], e: ExprId) -> Option<ScopeId>
     requires { Long store.now }
     ensures { scope_of result ≡ scope_of_expr (scopes_in store.now) e.0 }
 {
@@ -101,7 +101,7 @@ pub fn scope_of(store: &[u8], e: ExprId) -> MaybeScope
     if i < in_use(store, EXPR_COUNT, EXPR_LIMIT) {
         raised_scope(get32(store, USES + USE_ROW * wide(i)))
     } else {
-        MaybeScope::Absent
+        None
     }
 }
 

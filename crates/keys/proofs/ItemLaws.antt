@@ -12,12 +12,9 @@ use Rattle.spec.specs.Sheet.{Node}
 use Rattle.spec.specs.Tree.{node_at}
 use Rattle.spec.specs.Keys.{present, after_first, kid, items, items_after}
 use Rattle.module.specs.Ids.{node_of}
-use Rattle.module.specs.declared.ids.MaybeNode.{MaybeNode}
-use Rattle.module.specs.declared.ids.MaybeNode.TheVariants as maybe_node
 use Rattle.module.specs.declared.ids.NodeId as code_id
 use Rattle.keys.specs.Items.{items_from, First, Next}
-use Rattle.keys.specs.declared.items.NextItem.{NextItem}
-use Rattle.keys.specs.declared.items.NextItem.TheVariants.{End, Item}
+use Rattle.std.specs.Prelude as rust
 
 -- ---- where a list of items begins
 module _ (nodes : List Node) (n : NodeId) where
@@ -57,16 +54,16 @@ pub passed_none : (nodes : List Node) (n : NodeId) (i : ℕ) → Passed nodes n 
 passed_none nodes n i = record { low = omega arith; same = refl }
 
 module _ {nodes : List Node} {n : NodeId} {i at : ℕ} (p : Passed nodes n i at) (count : ℕ) (c : count ≡ length (node_at nodes n).kids) where
-  pub passed_end : count ≤ at → Next nodes i n End
+  pub passed_end : count ≤ at → Next nodes i n rust.None
   unfolding Next
   passed_end h = p.same ∙ items_past nodes n at (omega arith)
 
-  module _ (h : at < count) (m : MaybeNode) (e : node_of m ≡ kid nodes at n) where
-    pub passed_more : m ≡ maybe_node.Absent → Passed nodes n i (at + 1)
+  module _ (h : at < count) (m : rust.Option code_id.NodeId) (e : node_of m ≡ kid nodes at n) where
+    pub passed_more : m ≡ rust.None → Passed nodes n i (at + 1)
     unfolding node_of
     passed_more q = record { low = omega (arith, p.low); same = p.same ∙ items_none nodes n at (omega arith) (ap node_of (sym q) ∙ e) }
 
-    pub passed_item : (k : code_id.NodeId) → m ≡ maybe_node.Node k → Next nodes i n (Item k (at + 1))
+    pub passed_item : (k : code_id.NodeId) → m ≡ rust.Some k → Next nodes i n (rust.Some (k, at + 1))
     unfolding Next node_of
     passed_item k q =
         record {
@@ -76,11 +73,11 @@ module _ {nodes : List Node} {n : NodeId} {i at : ℕ} (p : Passed nodes n i at)
         }
 
 -- ---- what a caller knows of the answer
-module _ (nodes : List Node) (i : ℕ) (n : NodeId) (r : NextItem) (e : Next nodes i n r) where
-  pub next_end : r ≡ End → items_from nodes i n ≡ []
+module _ (nodes : List Node) (i : ℕ) (n : NodeId) (r : rust.Option (code_id.NodeId × ℕ)) (e : Next nodes i n r) where
+  pub next_end : r ≡ rust.None → items_from nodes i n ≡ []
   unfolding Next
   next_end q = rw q at e
 
-  pub next_first : (k : code_id.NodeId) (j : ℕ) → r ≡ Item k j → First nodes i n k.0 j
+  pub next_first : (k : code_id.NodeId) (j : ℕ) → r ≡ rust.Some (k, j) → First nodes i n k.0 j
   unfolding Next
   next_first k j q = rw q at e

@@ -13,8 +13,6 @@ use Rattle.spec.specs.Lower.{has_interpolation}
 use Rattle.spec.specs.Module.{PlainAttrset, RecAttrset}
 use Rattle.spec.specs.State.{SetId, Low}
 use Rattle.module.specs.Ids.{node_of}
-use Rattle.module.specs.declared.ids.MaybeNode.{MaybeNode}
-use Rattle.module.specs.declared.ids.MaybeNode.TheVariants as maybe_node
 use Rattle.module.specs.declared.ids.NodeId as code_id
 use Rattle.module.specs.declared.ids.TextId as code_text
 use Rattle.layout.specs.Layout.{absent}
@@ -22,10 +20,9 @@ use Rattle.layout.specs.Texts.{text_in, maybe_text}
 use Rattle.layout.proofs.Frames.{text_absent}
 use Rattle.keys.specs.Items.{items_from, First}
 use Rattle.keys.specs.AstUtils.{ident_name, set_kind, Interpolated}
-use Rattle.module.specs.declared.ids.MaybeText.{MaybeText}
-use Rattle.module.specs.declared.ids.MaybeText.TheVariants as maybe_text_lem
 use Rattle.keys.proofs.AnswerLaws.{text_there, text_missing}
 use Rattle.keys.proofs.ItemLaws.{items_are}
+use Rattle.std.specs.Prelude as rust
 
 -- ---- by the flag of a node
 module _ (nodes : List Node) (n : NodeId) (f : ℕ) (e : f ≡ flag nodes n) where
@@ -89,22 +86,22 @@ module _ {nodes : List Node} {n : NodeId} {at : ℕ} (s : Seeking nodes n at) wh
     seeking_more h = record { same = λ lower merge. s.same lower merge ∙ rw (a.items, ← e, ne_eqb k 33 h) }
 
 -- ---- keys
-module _ (s : List ℕ) (nodes : List Node) (n : NodeId) (m : MaybeText) (e : maybe_text s m ≡ get_str_literal nodes n) where
-  pub key_text : (t : code_text.TextId) → m ≡ maybe_text_lem.Text t → spec.static_key (text_in s t.0) ≡ str_key nodes n
+module _ (s : List ℕ) (nodes : List Node) (n : NodeId) (m : rust.Option code_text.TextId) (e : maybe_text s m ≡ get_str_literal nodes n) where
+  pub key_text : (t : code_text.TextId) → m ≡ rust.Some t → spec.static_key (text_in s t.0) ≡ str_key nodes n
   unfolding str_key
   key_text t q = rw (text_there s m (get_str_literal nodes n) e t q)
 
-  pub key_parts : m ≡ maybe_text_lem.Absent → spec.dynamic_key (some n) ≡ str_key nodes n
+  pub key_parts : m ≡ rust.None → spec.dynamic_key (some n) ≡ str_key nodes n
   unfolding str_key
   key_parts q = rw (text_missing s m (get_str_literal nodes n) e q)
 
 module _ (nodes : List Node) where
-  module _ (m : MaybeNode) where
-    pub inside_none : m ≡ maybe_node.Absent → spec.dynamic_key none ≡ inside_dynamic nodes (node_of m)
+  module _ (m : rust.Option code_id.NodeId) where
+    pub inside_none : m ≡ rust.None → spec.dynamic_key none ≡ inside_dynamic nodes (node_of m)
     unfolding inside_dynamic node_of
     inside_none q = rw q
 
-    module _ (n : code_id.NodeId) (q : m ≡ maybe_node.Node n) (k : ℕ) (e : k ≡ kind nodes n.0) where
+    module _ (n : code_id.NodeId) (q : m ≡ rust.Some n) (k : ℕ) (e : k ≡ kind nodes n.0) where
       pub inside_str : k ≡ 6 → {r : spec.AttrKind} → r ≡ str_key nodes n.0 → r ≡ inside_dynamic nodes (node_of m)
       unfolding inside_dynamic node_of
       inside_str h g = g ∙ rw (q, ← e, eq-eqb k 6 h)

@@ -25,18 +25,18 @@ use Rattle.module.proofs.LiteralLaws.{float_valid, integer_back}
 use Rattle.layout.specs.Texts.{text_in}
 use Rattle.keys.specs.Literals.{capped, number_from, float_held, integer_held, literal_held, alloc_literal, literal_given, ValidGiven, LiteralRead}
 use Rattle.keys.specs.declared.literals.Spelling.TheVariants.{Digits, Bytes}
-use Rattle.keys.specs.declared.literals.MaybeLiteral.{MaybeLiteral}
-use Rattle.keys.specs.declared.literals.MaybeLiteral.TheVariants.{Absent, Literal}
 use Rattle.keys.proofs.NumberLaws.{digits_say, bytes_say}
+use Rattle.module.specs.declared.literal.Literal as rust_literal
+use Rattle.std.specs.Prelude as rust
 
 -- ---- none
-held_none : (s : List ℕ) (o : Option spec.Literal) → none ≡ o → LiteralRead s o Absent
+held_none : (s : List ℕ) (o : Option spec.Literal) → none ≡ o → LiteralRead s o rust.None
 unfolding literal_given ValidGiven
 held_none s o e = record { is = e; valid = tt }
 
 -- ---- a Float
 module _ (s : List ℕ) (nodes : List Node) (n : NodeId) (f : ℕ) (e : f ≡ flag nodes n) where
-  pub float_none : (f ≡ 1 → ⊥) → LiteralRead s (float_held nodes n) Absent
+  pub float_none : (f ≡ 1 → ⊥) → LiteralRead s (float_held nodes n) rust.None
   unfolding float_held
   float_none h = held_none s (float_held nodes n) (rw (← e, ne_eqb f 1 h))
 
@@ -44,12 +44,12 @@ module _ (s : List ℕ) (nodes : List Node) (n : NodeId) (f : ℕ) (e : f ≡ fl
     bits_are : bits ≡ capped (bits_from 0 (text nodes n))
     bits_are = b ∙ ap capped (bytes_say (text_in s t) 0 ∙ ap (bits_from 0) q)
 
-    pub float_over : 9218868437227405312 < bits → LiteralRead s (float_held nodes n) Absent
+    pub float_over : 9218868437227405312 < bits → LiteralRead s (float_held nodes n) rust.None
     unfolding float_held
     float_over l =
         held_none s (float_held nodes n) (rw (← e, eq-eqb f 1 h, lt-leb (bits_from 0 (text nodes n)) 9218868437227405312 (omega (arith, bits_are))))
 
-    pub float_there : bits ≤ 9218868437227405312 → (x : Float) → float_bits x ≡ bits → LiteralRead s (float_held nodes n) (Literal (code.Float x))
+    pub float_there : bits ≤ 9218868437227405312 → (x : Float) → float_bits x ≡ bits → LiteralRead s (float_held nodes n) (rust.Some (code.Float x))
     unfolding float_held literal_given ValidGiven literal_of
     float_there l x g =
         let same : bits_from 0 (text nodes n) ≡ bits = omega (arith, bits_are) in
@@ -63,12 +63,12 @@ module _ (s : List ℕ) (nodes : List Node) (n : NodeId) (t : ℕ) (q : text_in 
   value_is : value ≡ capped (value_from 0 (text nodes n))
   value_is = b ∙ ap capped (digits_say (text_in s t) 0 ∙ ap (value_from 0) q)
 
-  pub integer_over : 9223372036854775807 < value → LiteralRead s (integer_held nodes n) Absent
+  pub integer_over : 9223372036854775807 < value → LiteralRead s (integer_held nodes n) rust.None
   unfolding integer_held
   integer_over l = held_none s (integer_held nodes n) (rw (lt-leb (value_from 0 (text nodes n)) 9223372036854775807 (omega (arith, value_is))))
 
   -- an i64 goes through the code by its word
-  pub integer_there : value ≤ 9223372036854775807 → (x y : ℤ) → nat_of x ≡ value → NotNegative x → y ≡ to_z w64 (of_z w64 x) → LiteralRead s (integer_held nodes n) (Literal (code.Integer y))
+  pub integer_there : value ≤ 9223372036854775807 → (x y : ℤ) → nat_of x ≡ value → NotNegative x → y ≡ to_z w64 (of_z w64 x) → LiteralRead s (integer_held nodes n) (rust.Some (code.Integer y))
   unfolding integer_held literal_given ValidGiven literal_of Valid
   integer_there l x y g v w =
       let same : value_from 0 (text nodes n) ≡ value = omega (arith, value_is) in
@@ -77,15 +77,15 @@ module _ (s : List ℕ) (nodes : List Node) (n : NodeId) (t : ℕ) (q : text_in 
 
 -- ---- by the number of the kind
 module _ (s : List ℕ) (nodes : List Node) (n : NodeId) (k : ℕ) where
-  pub literal_float : k ≡ 8 → {r : MaybeLiteral} → LiteralRead s (float_held nodes n) r → LiteralRead s (literal_held nodes k n) r
+  pub literal_float : k ≡ 8 → {r : rust.Option rust_literal.Literal} → LiteralRead s (float_held nodes n) r → LiteralRead s (literal_held nodes k n) r
   unfolding literal_held
   literal_float h g = record { is = g.is ∙ rw (eq-eqb k 8 h); valid = g.valid }
 
-  pub literal_integer : (k ≡ 8 → ⊥) → k ≡ 9 → {r : MaybeLiteral} → LiteralRead s (integer_held nodes n) r → LiteralRead s (literal_held nodes k n) r
+  pub literal_integer : (k ≡ 8 → ⊥) → k ≡ 9 → {r : rust.Option rust_literal.Literal} → LiteralRead s (integer_held nodes n) r → LiteralRead s (literal_held nodes k n) r
   unfolding literal_held
   literal_integer o h g = record { is = g.is ∙ rw (ne_eqb k 8 o, eq-eqb k 9 h); valid = g.valid }
 
-  pub literal_other : (k ≡ 8 → ⊥) → (k ≡ 9 → ⊥) → LiteralRead s (literal_held nodes k n) Absent
+  pub literal_other : (k ≡ 8 → ⊥) → (k ≡ 9 → ⊥) → LiteralRead s (literal_held nodes k n) rust.None
   unfolding literal_held
   literal_other o h = held_none s (literal_held nodes k n) (rw (ne_eqb k 8 o, ne_eqb k 9 h))
 

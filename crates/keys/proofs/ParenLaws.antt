@@ -11,9 +11,8 @@ use Rattle.spec.specs.Basics.{NodeId}
 use Rattle.spec.specs.Sheet.{Node}
 use Rattle.spec.specs.Keys.{kind, kid, flatten_paren}
 use Rattle.module.specs.Ids.{node_of}
-use Rattle.module.specs.declared.ids.MaybeNode.{MaybeNode}
-use Rattle.module.specs.declared.ids.MaybeNode.TheVariants as maybe_node
 use Rattle.module.specs.declared.ids.NodeId as code_id
+use Rattle.std.specs.Prelude as rust
 
 -- ---- one turn
 module _ (nodes : List Node) where
@@ -32,14 +31,14 @@ module _ (nodes : List Node) where
   flatten_paren_lem left n e = rw (e, flatten_paren)
 
 -- ---- the loop: what is left to do gives what was to be done
-pub record Flattening (nodes : List Node) (place cur : MaybeNode) (left : ℕ) : Type 0 where
+pub record Flattening (nodes : List Node) (place cur : rust.Option code_id.NodeId) (left : ℕ) : Type 0 where
   pub same : flatten_paren nodes 256 (node_of place) ≡ flatten_paren nodes left (node_of cur)
 
-pub flattening_start : (nodes : List Node) (place : MaybeNode) → Flattening nodes place place 256
+pub flattening_start : (nodes : List Node) (place : rust.Option code_id.NodeId) → Flattening nodes place place 256
 flattening_start nodes place = record { same = refl }
 
-module _ {nodes : List Node} {place cur : MaybeNode} {left : ℕ} (f : Flattening nodes place cur left) where
-  pub flattened_none : cur ≡ maybe_node.Absent → none ≡ flatten_paren nodes 256 (node_of place)
+module _ {nodes : List Node} {place cur : rust.Option code_id.NodeId} {left : ℕ} (f : Flattening nodes place cur left) where
+  pub flattened_none : cur ≡ rust.None → none ≡ flatten_paren nodes 256 (node_of place)
   unfolding node_of
   flattened_none q = flatten_none nodes left ∙ sym (f.same ∙ ap (λ m. flatten_paren nodes left (node_of m)) q)
 
@@ -47,13 +46,13 @@ module _ {nodes : List Node} {place cur : MaybeNode} {left : ℕ} (f : Flattenin
   unfolding flatten_paren
   flattened_out h = let z : left ≡ 0 = omega arith in sym (f.same ∙ ap (λ l. flatten_paren nodes l (node_of cur)) z)
 
-  module _ (n : code_id.NodeId) (q : cur ≡ maybe_node.Node n) (k : ℕ) (e : k ≡ kind nodes n.0) where
+  module _ (n : code_id.NodeId) (q : cur ≡ rust.Some n) (k : ℕ) (e : k ≡ kind nodes n.0) where
     pub flattened_other : (k ≡ 15 → ⊥) → some n.0 ≡ flatten_paren nodes 256 (node_of place)
     unfolding node_of
     flattened_other h =
         flatten_other nodes left n.0 (ap (λ x. eqb x 15) (sym e) ∙ ne_eqb k 15 h) ∙ sym (f.same ∙ ap (λ m. flatten_paren nodes left (node_of m)) q)
 
-    pub flattening_more : k ≡ 15 → 0 < left → (m : MaybeNode) → node_of m ≡ kid nodes 0 n.0 → Flattening nodes place m (left - 1)
+    pub flattening_more : k ≡ 15 → 0 < left → (m : rust.Option code_id.NodeId) → node_of m ≡ kid nodes 0 n.0 → Flattening nodes place m (left - 1)
     unfolding node_of
     flattening_more h l m g =
         let s : left ≡ suc (left - 1) = omega arith in

@@ -4,8 +4,8 @@ use Rattle.spec.specs.Basics.{NodeId}
 use Rattle.spec.specs.Sheet.{Node}
 use Rattle.spec.specs.Tree.{node_at}
 use Rattle.spec.specs.Keys.{present}
-use Rattle.keys.specs.declared.items.NextItem.{NextItem}
-use Rattle.keys.specs.declared.items.NextItem.TheVariants.{End, Item}
+use Rattle.module.specs.declared.ids.NodeId as rust_node_id
+use Rattle.std.specs.Prelude as rust
 
 unfoldable pub items_from : List Node → ℕ → NodeId → List NodeId
 items_from nodes i n = present (drop i (node_at nodes n).kids)
@@ -17,6 +17,6 @@ pub record First (nodes : List Node) (i : ℕ) (n k : NodeId) (j : ℕ) : Type 0
   pub inside : j ≤ length (node_at nodes n).kids
 
 -- what comes next from place i on
-unfoldable pub Next : List Node → ℕ → NodeId → NextItem → Type 0
-Next nodes i n End = items_from nodes i n ≡ []
-Next nodes i n (Item k j) = First nodes i n k.0 j
+unfoldable pub Next : List Node → ℕ → NodeId → rust.Option (rust_node_id.NodeId × ℕ) → Type 0
+Next nodes i n rust.None = items_from nodes i n ≡ []
+Next nodes i n (rust.Some (k, j)) = First nodes i n k.0 j

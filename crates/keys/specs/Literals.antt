@@ -11,8 +11,8 @@ use Rattle.module.specs.Literals.{literal_of, Valid}
 use Rattle.layout.specs.Texts.{text_in}
 use Rattle.keys.specs.declared.literals.Spelling.{Spelling}
 use Rattle.keys.specs.declared.literals.Spelling.TheVariants.{Digits, Bytes}
-use Rattle.keys.specs.declared.literals.MaybeLiteral.{MaybeLiteral}
-use Rattle.keys.specs.declared.literals.MaybeLiteral.TheVariants.{Absent, Literal}
+use Rattle.module.specs.declared.literal.Literal as rust_literal
+use Rattle.std.specs.Prelude as rust
 
 -- ---- numbers whose value stops at 9,223,372,036,854,775,808
 abbrev pub capped : ℕ → ℕ
@@ -50,14 +50,14 @@ alloc_literal nodes n none = alloc_missing
 alloc_literal nodes n (some l) = alloc_expr (spec.literal l) (pointer nodes n)
 
 -- ---- what the code gives
-unfoldable pub literal_given : List ℕ → MaybeLiteral → Option spec.Literal
-literal_given s Absent = none
-literal_given s (Literal l) = some (literal_of (text_in s) l)
+unfoldable pub literal_given : List ℕ → rust.Option rust_literal.Literal → Option spec.Literal
+literal_given s rust.None = none
+literal_given s (rust.Some l) = some (literal_of (text_in s) l)
 
-unfoldable pub ValidGiven : MaybeLiteral → Type 0
-ValidGiven Absent = Unit {0}
-ValidGiven (Literal l) = Valid l
+unfoldable pub ValidGiven : rust.Option rust_literal.Literal → Type 0
+ValidGiven rust.None = Unit {0}
+ValidGiven (rust.Some l) = Valid l
 
-pub record LiteralRead (s : List ℕ) (o : Option spec.Literal) (r : MaybeLiteral) : Type 0 where
+pub record LiteralRead (s : List ℕ) (o : Option spec.Literal) (r : rust.Option rust_literal.Literal) : Type 0 where
   pub is : literal_given s r ≡ o
   pub valid : ValidGiven r

@@ -9,10 +9,10 @@ ghost use Rattle.layout.specs.Nodes.{nodes_of};
 ghost use Rattle.layout.specs.Texts.{maybe_text};
 ghost use Rattle.keys.specs.AstUtils.{attr_kind_of, ident_name, set_kind, Interpolated};
 
-use crate::items::{NextItem, next_item};
+use crate::items::next_item;
 use intake::{kid, node_flag, node_kind, node_text};
 use layout::tables::ABSENT;
-use module::{MaybeNode, MaybeText, NameKind, NodeId, TextId};
+use module::{NameKind, NodeId, TextId};
 
 // The kinds of nodes that these functions ask for.
 const STR: u32 = 6;
@@ -35,11 +35,11 @@ const EMPTY: TextId = TextId(ABSENT);
 #[derive(Clone, Copy)]
 pub enum AttrKind {
     Static(TextId),
-    Dynamic(MaybeNode),
+    Dynamic(Option<NodeId>),
 }
 
 // What stands inside any Parens.
-pub fn flatten_paren(store: &[u8], place: MaybeNode) -> MaybeNode
+pub fn flatten_paren(store: &[u8], place: Option<NodeId>) -> Option<NodeId>
     requires { Long store.now }
     ensures { node_of result ≡ flatten_paren (nodes_of store.now) 256 (node_of place) }
 {
@@ -47,12 +47,12 @@ pub fn flatten_paren(store: &[u8], place: MaybeNode) -> MaybeNode
     let mut left = DEPTH;
     while 0 < left {
         match cur {
-            MaybeNode::Absent => {
-                return MaybeNode::Absent;
+            None => {
+                return None;
             }
-            MaybeNode::Node(n) => {
+            Some(n) => {
                 if node_kind(store, n) != PAREN {
-                    return MaybeNode::Node(n);
+                    return Some(n);
                 }
                 cur = kid(store, n, 0);
             }
@@ -63,30 +63,30 @@ pub fn flatten_paren(store: &[u8], place: MaybeNode) -> MaybeNode
 }
 
 // The name of an Ident, where it has one.
-pub fn name_of_ident(store: &[u8], n: NodeId) -> MaybeText
+pub fn name_of_ident(store: &[u8], n: NodeId) -> Option<TextId>
     requires { Long store.now }
     ensures { maybe_text store.now result ≡ ident_name (nodes_of store.now) n.0 }
 {
     if node_flag(store, n) == 1 {
-        return MaybeText::Text(node_text(store, n));
+        return Some(node_text(store, n));
     }
-    MaybeText::Absent
+    None
 }
 
 // The text of a Str without interpolation and with at most one part. With none it is the empty text.
-pub fn get_str_literal(store: &[u8], n: NodeId) -> MaybeText
+pub fn get_str_literal(store: &[u8], n: NodeId) -> Option<TextId>
     requires { Long store.now }
     ensures { maybe_text store.now result ≡ get_str_literal (nodes_of store.now) n.0 }
 {
     match next_item(store, n, 0) {
-        NextItem::End => MaybeText::Text(EMPTY),
-        NextItem::Item(part, next) => match next_item(store, n, next) {
-            NextItem::Item(_, _) => MaybeText::Absent,
-            NextItem::End => {
+        None => Some(EMPTY),
+        Some((part, next)) => match next_item(store, n, next) {
+            Some((_, _)) => None,
+            None => {
                 if node_kind(store, part) == LITERAL_PART {
-                    return MaybeText::Text(node_text(store, part));
+                    return Some(node_text(store, part));
                 }
-                MaybeText::Absent
+                None
             }
         },
     }
@@ -110,10 +110,10 @@ pub fn has_interpolation(store: &[u8], n: NodeId) -> bool
     let mut at: u32 = 0;
     loop {
         match next_item(store, n, at) {
-            NextItem::End => {
+            None => {
                 return false;
             }
-            NextItem::Item(part, next) => {
+            Some((part, next)) => {
                 if node_kind(store, part) == INTERPOLATION {
                     return true;
                 }
@@ -129,23 +129,23 @@ fn str_key(store: &[u8], n: NodeId) -> AttrKind
     ensures { attr_kind_of store.now result ≡ str_key (nodes_of store.now) n.0 }
 {
     match get_str_literal(store, n) {
-        MaybeText::Text(t) => AttrKind::Static(t),
-        MaybeText::Absent => AttrKind::Dynamic(MaybeNode::Node(n)),
+        Some(t) => AttrKind::Static(t),
+        None => AttrKind::Dynamic(Some(n)),
     }
 }
 
 // The key that a Dynamic is, by what stands inside its Parens: a Str, but no Ident, can be a static key there.
-fn inside_dynamic(store: &[u8], place: MaybeNode) -> AttrKind
+fn inside_dynamic(store: &[u8], place: Option<NodeId>) -> AttrKind
     requires { Long store.now }
     ensures { attr_kind_of store.now result ≡ inside_dynamic (nodes_of store.now) (node_of place) }
 {
     match place {
-        MaybeNode::Absent => AttrKind::Dynamic(MaybeNode::Absent),
-        MaybeNode::Node(n) => {
+        None => AttrKind::Dynamic(None),
+        Some(n) => {
             if node_kind(store, n) == STR {
                 return str_key(store, n);
             }
-            AttrKind::Dynamic(MaybeNode::Node(n))
+            AttrKind::Dynamic(Some(n))
         }
     }
 }

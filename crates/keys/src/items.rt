@@ -4,17 +4,10 @@ ghost use Rattle.layout.specs.Nodes.{nodes_of};
 ghost use Rattle.keys.specs.Items.{Next};
 
 use intake::{kid, kid_count};
-use module::{MaybeNode, NodeId};
-
-// An item, and the place after it.
-#[derive(Clone, Copy)]
-pub enum NextItem {
-    End,
-    Item(NodeId, u32),
-}
+use module::NodeId;
 
 // The first kid of n from place i on that is there.
-pub fn next_item(store: &[u8], n: NodeId, i: u32) -> NextItem
+pub fn next_item(store: &[u8], n: NodeId, i: u32) -> Option<(NodeId, u32)>
     requires { Long store.now }
     ensures { Next (nodes_of store.now) i n.0 result }
 {
@@ -22,13 +15,13 @@ pub fn next_item(store: &[u8], n: NodeId, i: u32) -> NextItem
     let mut at = i;
     while at < count {
         match kid(store, n, at) {
-            MaybeNode::Node(k) => {
-                return NextItem::Item(k, at + 1);
+            Some(k) => {
+                return Some((k, at + 1));
             }
-            MaybeNode::Absent => {
+            None => {
                 at += 1;
             }
         }
     }
-    NextItem::End
+    None
 }

@@ -10,5 +10,5 @@ pub use ast_utils::{
     AttrKind, attr_kind, flatten_paren, get_str_literal, has_interpolation, name_kind_of_set,
     name_of_ident,
 };
-pub use items::{NextItem, next_item};
-pub use literals::{MaybeLiteral, literal_of};
+pub use items::next_item;
+pub use literals::literal_of;

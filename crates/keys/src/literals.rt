@@ -28,12 +28,6 @@ enum Spelling {
     Bytes,
 }
 
-#[derive(Clone, Copy)]
-pub enum MaybeLiteral {
-    Absent,
-    Literal(Literal),
-}
-
 fn at_most_too_large(value: u64) -> u64
     ensures { result ≡ capped value }
 {
@@ -93,34 +87,34 @@ fn number_in(store: &[u8], t: TextId, spelling: Spelling) -> u64
 
 // The literal that a Float is, where it has one, which flag 1 says. Bits above those of infinity are in no
 // accepted sheet, and give none.
-fn float_literal(store: &[u8], n: NodeId) -> MaybeLiteral
+fn float_literal(store: &[u8], n: NodeId) -> Option<Literal>
     requires { Long store.now }
     ensures { LiteralRead store.now (float_held (nodes_of store.now) n.0) result }
 {
     if node_flag(store, n) != 1 {
-        return MaybeLiteral::Absent;
+        return None;
     }
     let bits = number_in(store, node_text(store, n), Spelling::Bytes);
     if LARGEST_FLOAT < bits {
-        return MaybeLiteral::Absent;
+        return None;
     }
-    MaybeLiteral::Literal(Literal::Float(float_of(bits)))
+    Some(Literal::Float(float_of(bits)))
 }
 
 // The literal that an Integer is, where it is an i64.
-fn integer_literal(store: &[u8], n: NodeId) -> MaybeLiteral
+fn integer_literal(store: &[u8], n: NodeId) -> Option<Literal>
     requires { Long store.now }
     ensures { LiteralRead store.now (integer_held (nodes_of store.now) n.0) result }
 {
     let value = number_in(store, node_text(store, n), Spelling::Digits);
     if LARGEST_INTEGER < value {
-        return MaybeLiteral::Absent;
+        return None;
     }
-    MaybeLiteral::Literal(Literal::Integer(integer_of(value)))
+    Some(Literal::Integer(integer_of(value)))
 }
 
 // The literal that a node of the kind is: that of a Float or an Integer, and none for the other kinds.
-pub fn literal_of(store: &[u8], n: NodeId, kind: u32) -> MaybeLiteral
+pub fn literal_of(store: &[u8], n: NodeId, kind: u32) -> Option<Literal>
     requires { Long store.now }
     ensures { LiteralRead store.now (literal_held (nodes_of store.now) kind n.0) result }
 {
@@ -130,5 +124,5 @@ pub fn literal_of(store: &[u8], n: NodeId, kind: u32) -> MaybeLiteral
     if kind == INTEGER {
         return integer_literal(store, n);
     }
-    MaybeLiteral::Absent
+    None
 }

@@ -4,10 +4,10 @@ use Rattle.std.proofs.Math.Option.{Option, none, some}
 use Rattle.words.specs.Runs.{run}
 use Rattle.words.specs.Words.{word}
 use Rattle.spec.specs.Basics.{Text}
-use Rattle.module.specs.declared.ids.MaybeText.{MaybeText}
-use Rattle.module.specs.declared.ids.MaybeText.TheVariants as maybe_text_lem
 use Rattle.layout.specs.Layout.{texts_place, texts_at, text_limit}
 use Rattle.layout.specs.Rows.{cap}
+use Rattle.module.specs.declared.ids.TextId as rust_text_id
+use Rattle.std.specs.Prelude as rust
 
 -- how many bytes of the region are in use
 unfoldable pub texts_used : List ℕ → ℕ
@@ -25,6 +25,6 @@ unfoldable pub text_held : List ℕ → ℕ → Bool
 text_held s k = leb (k + 4 + word s (texts_at + k)) (texts_used s)
 
 -- a text that may be absent
-unfoldable pub maybe_text : List ℕ → MaybeText → Option Text
-maybe_text s (maybe_text_lem.Text t) = some (text_in s t.0)
-maybe_text s maybe_text_lem.Absent = none
+unfoldable pub maybe_text : List ℕ → rust.Option rust_text_id.TextId → Option Text
+maybe_text s (rust.Some t) = some (text_in s t.0)
+maybe_text s rust.None = none

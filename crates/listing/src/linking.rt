@@ -7,7 +7,7 @@ ghost use Rattle.listing.specs.Links.{Unheaded, LinksOne, LinksAll, Links};
 use crate::meaning::name_meant;
 use layout::tables::{EXPR_COUNT, EXPR_LIMIT, HEADS, NAME_COUNT, NAME_LIMIT, NEXTS};
 use layout::{at_most, wide};
-use module::{ExprId, MaybeName};
+use module::{ExprId, NameId};
 use words::{get32, put32};
 
 // The lists of the first n names are empty.
@@ -27,7 +27,7 @@ fn link_one(store: &mut [u8], e: ExprId, n: u32)
     requires { Long store.old × (e.0 < expr_limit) × (n ≤ name_limit) }
     ensures { LinksOne n e.0 store.old store.new }
 {
-    let MaybeName::Name(x) = name_meant(store, e) else {
+    let Some(x) = name_meant(store, e) else {
         return;
     };
     let name = x.0;

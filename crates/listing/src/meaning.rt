@@ -6,17 +6,17 @@ ghost use Rattle.layout.specs.Layout.{Long};
 ghost use Rattle.layout.specs.Keeps.{kept_in};
 ghost use Rattle.answer.specs.Answers.{meant};
 
-use answer::{MaybeAnswer, name_of_answer};
+use answer::name_of_answer;
 use kept::kept_answer;
-use module::{ExprId, MaybeName};
+use module::{ExprId, NameId};
 
 // The name that an expression means: none where it is no Reference, or means no name.
-pub fn name_meant(store: &[u8], e: ExprId) -> MaybeName
+pub fn name_meant(store: &[u8], e: ExprId) -> Option<NameId>
     requires { Long store.now }
     ensures { name_of result ≡ meant (kept_answer (kept_in store.now) e.0) }
 {
     match kept_answer(store, e) {
-        MaybeAnswer::Kept(a) => name_of_answer(a),
-        MaybeAnswer::Absent => MaybeName::Absent,
+        Some(a) => name_of_answer(a),
+        None => None,
     }
 }

@@ -16,9 +16,6 @@ use Rattle.spec.specs.Lower.{lower_if_there, lower_if_else, lower_bin_op, lower_
 use Rattle.module.specs.Ids.{node_of, expr_of, pointer_of}
 use Rattle.module.specs.declared.ids.NodeId as code_node
 use Rattle.module.specs.declared.ids.ExprId as code_expr
-use Rattle.module.specs.declared.ids.MaybeNode.{MaybeNode}
-use Rattle.module.specs.declared.ids.MaybeNode.TheVariants as maybe_node
-use Rattle.module.specs.declared.ids.MaybeExpr.TheVariants as maybe_expr
 use Rattle.module.specs.declared.expr.Expr as code
 use Rattle.module.specs.declared.expr.Expr.TheVariants.{IfThenElse, BinOp, UnaryOp}
 use Rattle.layout.specs.Nodes.{nodes_of}
@@ -37,12 +34,13 @@ use Rattle.lower.specs.Parts.{lower_at, merge_at, LowersNode, form_of, IsForm}
 use Rattle.lower.specs.declared.reads.Children.{Children}
 use Rattle.lower.proofs.TurnLaws.{next}
 use Rattle.lower.proofs.SizeLaws.{own_and_below, heft_place, three_below}
+use Rattle.std.specs.Prelude as rust
 
 -- ---- the contracts that the laws are about
-abbrev pub Opt : ℕ → MaybeNode → List ℕ → ℕ → List ℕ → Type 0
+abbrev pub Opt : ℕ → rust.Option code_node.NodeId → List ℕ → ℕ → List ℕ → Type 0
 Opt depth p s r t = Lowering 0 (heft (node_of p)) one_expr (λ nodes. lower_opt nodes (lower_at depth nodes) (merge_at depth nodes) (node_of p)) s r t
 
-abbrev pub There : ℕ → MaybeNode → List ℕ → Option ExprId → List ℕ → Type 0
+abbrev pub There : ℕ → rust.Option code_node.NodeId → List ℕ → Option ExprId → List ℕ → Type 0
 There depth p s r t = Lowering 0 (λ nodes. place nodes (node_of p)) nothing (λ nodes. lower_if_there nodes (lower_at depth nodes) (merge_at depth nodes) (node_of p)) s r t
 
 -- an expression without items
@@ -50,19 +48,19 @@ abbrev pub Lone : code.Expr → Pointer → List ℕ → ℕ → List ℕ → Ty
 Lone e p s r t = Lowering 0 (λ _. 0) one_expr (λ _. alloc_expr (expr_with (text_in s) e []) p) s r t
 
 -- ---- an expression that may be absent
-pub opt_node : (depth : ℕ) (n : code_node.NodeId) {p : MaybeNode} {s t : List ℕ} {r : ℕ} → p ≡ maybe_node.Node n → LowersNode depth n.0 s r t → Opt depth p s r t
+pub opt_node : (depth : ℕ) (n : code_node.NodeId) {p : rust.Option code_node.NodeId} {s t : List ℕ} {r : ℕ} → p ≡ rust.Some n → LowersNode depth n.0 s r t → Opt depth p s r t
 unfolding lower_opt node_of
 opt_node depth n e x = rw e x.tight
 
-pub opt_absent : (depth : ℕ) {p : MaybeNode} {s t : List ℕ} {r : ℕ} → p ≡ maybe_node.Absent → Did (take_lone hole_made) s r t → Opt depth p s r t
+pub opt_absent : (depth : ℕ) {p : rust.Option code_node.NodeId} {s t : List ℕ} {r : ℕ} → p ≡ rust.None → Did (take_lone hole_made) s r t → Opt depth p s r t
 unfolding lower_opt node_of heft
 opt_absent depth e d = rw e (all_lower (missing_taken d))
 
-pub there_node : (depth : ℕ) (n : code_node.NodeId) (e : code_expr.ExprId) {p : MaybeNode} {s t : List ℕ} → p ≡ maybe_node.Node n → LowersNode depth n.0 s e.0 t → There depth p s (expr_of (maybe_expr.Expr e)) t
+pub there_node : (depth : ℕ) (n : code_node.NodeId) (e : code_expr.ExprId) {p : rust.Option code_node.NodeId} {s t : List ℕ} → p ≡ rust.Some n → LowersNode depth n.0 s e.0 t → There depth p s (expr_of (rust.Some e)) t
 unfolding lower_if_there node_of expr_of place covers ◌⊕◌ price nothing own_node
 there_node depth n e q x = rw q (all_lower (fits 1 (λ w. omega (arith, own_and_below w n.0)) refl (next (λ a. give (some a)) (x.whole.at _ _) (gave (some e.0)))))
 
-pub there_absent : (depth : ℕ) {p : MaybeNode} (s : List ℕ) → p ≡ maybe_node.Absent → There depth p s (expr_of maybe_expr.Absent) s
+pub there_absent : (depth : ℕ) {p : rust.Option code_node.NodeId} (s : List ℕ) → p ≡ rust.None → There depth p s (expr_of rust.None) s
 unfolding lower_if_there node_of expr_of place
 there_absent depth s q = rw q (all_lower (gave none))
 

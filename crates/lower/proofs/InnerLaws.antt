@@ -12,7 +12,6 @@ use Rattle.spec.specs.Keys.{pointer}
 use Rattle.spec.specs.Module.{Pointer, NameKind, PlainAttrset}
 use Rattle.module.specs.Ids.{node_of, pointer_of}
 use Rattle.module.specs.Kinds.{kind_of}
-use Rattle.module.specs.declared.ids.MaybeNode.{MaybeNode}
 use Rattle.module.specs.declared.kinds.NameKind as code_kind
 use Rattle.module.specs.declared.kinds.NameKind.TheVariants as code_kinds
 use Rattle.module.specs.declared.pointer.Pointer as code_pointer
@@ -45,6 +44,8 @@ use Rattle.lower.specs.Sizes.{sized, sizes, place}
 use Rattle.lower.specs.Reads.{attrs_from}
 use Rattle.lower.specs.Parts.{lower_at, merge_at}
 use Rattle.lower.proofs.WaitLaws.{all_collect}
+use Rattle.module.specs.declared.ids.NodeId as rust_node_id
+use Rattle.std.specs.Prelude as rust
 
 -- ---- what stands on top, cut off
 module _ {st u : State} (o : Above st u) where
@@ -255,7 +256,7 @@ desugar_lowers depth kind n p {s = s} {u} {v} {x} {t} {r} i j q opens y f d =
     (above_bindings ns depth (kind_of kind) (pointer_of p) n) (loads_few v r) i j opens (y.at ns (waiting_of s)) (f.at (waiting_of s)) d))
 
 -- the nested set of a key that is not static
-pub nest_lowers : (depth : ℕ) (p : code_pointer.Pointer) (way : MaybeNode) (n : NodeId) (after : ℕ) (value : MaybeNode) {a b : ℕ} {s u v x t : List ℕ} {r : SetId} {e : ExprId}
+pub nest_lowers : (depth : ℕ) (p : code_pointer.Pointer) (way : rust.Option rust_node_id.NodeId) (n : NodeId) (after : ℕ) (value : rust.Option rust_node_id.NodeId) {a b : ℕ} {s u v x t : List ℕ} {r : SetId} {e : ExprId}
     → a ≡ length (sets_of s) → b ≡ length (entries_of s) → Did (open_set (kind_of code_kinds.PlainAttrset) (pointer_of p)) s r u
     → Lowering (suc r) (λ nodes. sized nodes n + (sizes nodes (attrs_from nodes after (node_of way)) + place nodes (node_of value))) nothing
     (λ nodes. merge_nested_attr_value nodes (lower_at depth nodes) (merge_at depth nodes) r n (attrs_from nodes after (node_of way)) (node_of value)) u tt v

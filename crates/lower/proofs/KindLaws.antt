@@ -18,7 +18,6 @@ use Rattle.spec.specs.Merge.{lower_opt}
 use Rattle.spec.specs.Lower as lowering
 use Rattle.spec.specs.Lower.{lower_string, lower_path, lower_if_else, lower_select, lower_has_attr, lower_float, lower_integer, lower_lambda, lower_let_in, lower_list, lower_bin_op, lower_attr_set, lower_unary_op, lower_ident, lower_as, lower_expr}
 use Rattle.module.specs.Ids.{node_of}
-use Rattle.module.specs.declared.ids.MaybeNode.{MaybeNode}
 use Rattle.layout.specs.Nodes.{nodes_of}
 use Rattle.store.specs.Codes.{hole_made}
 use Rattle.store.specs.Work.{Did, take_lone}
@@ -30,6 +29,8 @@ use Rattle.lower.specs.Sizes.{sized, below, place, heft}
 use Rattle.lower.specs.Parts.{lower_at, merge_at, LowersNode, form_of}
 use Rattle.lower.proofs.SizeLaws.{own_and_below, heft_whole, heft_str, heft_place, kid_below}
 use Rattle.lower.proofs.ExprLaws.{Opt}
+use Rattle.module.specs.declared.ids.NodeId as rust_node_id
+use Rattle.std.specs.Prelude as rust
 
 -- ---- where no level is left
 pub too_deep : (depth n : ℕ) {s t : List ℕ} {r : ℕ} → depth ≡ 0 → Did (take_lone hole_made) s r t → LowersNode depth n s r t
@@ -187,17 +188,17 @@ module _ (depth n k : ℕ) {s t : List ℕ} {r : ℕ} (deep : depth ≡ 0 → �
   ident_arm q x = arm 18 q (λ z. omega arith) (own_room x)
 
   -- ---- Parens and Root: what is inside
-  inside : (p : MaybeNode) → node_of p ≡ kid (nodes_of s) 0 n → Opt (depth - 1) p s r t → Lowering 0 (below n) own_node (λ nodes. lower_opt nodes (lower_at (depth - 1) nodes) (merge_at (depth - 1) nodes) (kid nodes 0 n)) s r t
+  inside : (p : rust.Option rust_node_id.NodeId) → node_of p ≡ kid (nodes_of s) 0 n → Opt (depth - 1) p s r t → Lowering 0 (below n) own_node (λ nodes. lower_opt nodes (lower_at (depth - 1) nodes) (merge_at (depth - 1) nodes) (kid nodes 0 n)) s r t
   unfolding covers price one_expr own_node
   inside p f x =
       all_lower
       (rw (← f) (fits 0 (λ w. let b : place (nodes_of s) (node_of p) ≤ below n (nodes_of s) = rw f (kid_below w n) in omega (arith, heft_place (nodes_of s) (node_of p))) refl (x.at _ _)))
 
-  pub paren_arm : (p : MaybeNode) → k ≡ 15 → node_of p ≡ kid (nodes_of s) 0 n → Opt (depth - 1) p s r t → LowersNode depth n s r t
+  pub paren_arm : (p : rust.Option rust_node_id.NodeId) → k ≡ 15 → node_of p ≡ kid (nodes_of s) 0 n → Opt (depth - 1) p s r t → LowersNode depth n s r t
   unfolding lower_as when
   paren_arm p q f x = arm 15 q (λ z. omega arith) (inside p f x)
 
-  pub root_arm : (p : MaybeNode) → k ≡ 21 → node_of p ≡ kid (nodes_of s) 0 n → Opt (depth - 1) p s r t → LowersNode depth n s r t
+  pub root_arm : (p : rust.Option rust_node_id.NodeId) → k ≡ 21 → node_of p ≡ kid (nodes_of s) 0 n → Opt (depth - 1) p s r t → LowersNode depth n s r t
   unfolding lower_as when
   root_arm p q f x = arm 21 q (λ z. omega arith) (inside p f x)
 

@@ -20,10 +20,6 @@ use Rattle.spec.specs.Lower.{lower_name, lower_field, lower_pattern, lower_param
 use Rattle.module.specs.Ids.{node_of, expr_of, name_of, pointer_of}
 use Rattle.module.specs.Kinds.{kind_of}
 use Rattle.module.specs.declared.ids.ExprId as code_expr
-use Rattle.module.specs.declared.ids.MaybeNode.{MaybeNode}
-use Rattle.module.specs.declared.ids.MaybeExpr.{MaybeExpr}
-use Rattle.module.specs.declared.ids.MaybeName.{MaybeName}
-use Rattle.module.specs.declared.ids.MaybeName.TheVariants as maybe_name
 use Rattle.module.specs.declared.kinds.NameKind.TheVariants as name_kind_lem
 use Rattle.module.specs.declared.expr.Pattern.{Pattern}
 use Rattle.module.specs.declared.expr.Pattern.TheVariants.{Absent, Closed, Ellipsis}
@@ -52,17 +48,20 @@ use Rattle.lower.proofs.TurnLaws.{next}
 use Rattle.lower.proofs.WaitLaws.{fields_back, fields_suit, pushed_giving, taken_from, all_collect}
 use Rattle.lower.proofs.ExprLaws.{Opt, There}
 use Rattle.lower.proofs.ListedLaws.{Allocated}
+use Rattle.module.specs.declared.ids.NodeId as rust_node_id
+use Rattle.module.specs.declared.ids.NameId as rust_name_id
+use Rattle.std.specs.Prelude as rust
 
 -- ---- the contracts that the laws are about
-abbrev pub Named : ℕ → spec.NameKind → MaybeNode → List ℕ → Option NameId → List ℕ → Type 0
+abbrev pub Named : ℕ → spec.NameKind → rust.Option rust_node_id.NodeId → List ℕ → Option NameId → List ℕ → Type 0
 Named depth k p s r t = Lowering 0 (λ nodes. place nodes (node_of p)) nothing (λ nodes. lower_name nodes (lower_at depth nodes) (merge_at depth nodes) k (node_of p)) s r t
 
-abbrev pub Fields : ℕ → MaybeNode → List ℕ → List ℕ → Type 0
+abbrev pub Fields : ℕ → rust.Option rust_node_id.NodeId → List ℕ → List ℕ → Type 0
 Fields depth p s t =
     Collecting 0 (λ nodes. sizes nodes (attrs_from nodes 1 (node_of p))) nothing (map field_item) (λ nodes. each (lower_field nodes (lower_at depth nodes) (merge_at depth nodes)) (attrs_from nodes 1 (node_of p))) s t
 
 -- ---- a field: its name, then its default
-pub field_lowers : (depth n : ℕ) (at : Children) (x : MaybeName) (d : MaybeExpr) {s u v t : List ℕ} → HasChildren (nodes_of s) n at → Named depth (kind_of name_kind_lem.PatField) at.first s (name_of x) u → There depth at.second u (expr_of d) v
+pub field_lowers : (depth n : ℕ) (at : Children) (x : rust.Option rust_name_id.NameId) (d : rust.Option code_expr.ExprId) {s u v t : List ℕ} → HasChildren (nodes_of s) n at → Named depth (kind_of name_kind_lem.PatField) at.first s (name_of x) u → There depth at.second u (expr_of d) v
     → Did (push_item (item_with (text_in v) (code_item.Field x d))) v tt t
     → Collecting 0 (λ nodes. sized nodes n) nothing (one field_item) (λ nodes. lower_field nodes (lower_at depth nodes) (merge_at depth nodes) n) s t
 unfolding lower_field kind_of field_item one item_with covers ◌⊕◌ price nothing one_item
@@ -112,10 +111,10 @@ no_owner nodes (some n) e = go (eqb (kind nodes n) 28) e
     go false h = let z : ◌≡◌ {A = ℕ} 0 1 = cc in absurd (omega arith)
 
 -- the fields that the code leaves waiting, read from the store u on
-abbrev fields_from : ℕ → List Node → MaybeNode → List ℕ → List (Option NameId × Option ExprId)
+abbrev fields_from : ℕ → List Node → rust.Option rust_node_id.NodeId → List ℕ → List (Option NameId × Option ExprId)
 fields_from depth nodes owner u = (each (lower_field nodes (lower_at depth nodes) (merge_at depth nodes)) (attrs_from nodes 1 (node_of owner)) (state_of u)).0
 
-no_fields : (depth : ℕ) (nodes : List Node) (owner : MaybeNode) (u : List ℕ) → node_of owner ≡ none → fields_from depth nodes owner u ≡ []
+no_fields : (depth : ℕ) (nodes : List Node) (owner : rust.Option rust_node_id.NodeId) (u : List ℕ) → node_of owner ≡ none → fields_from depth nodes owner u ≡ []
 unfolding attrs_from each give
 no_fields depth nodes owner u e = ap (λ (o : Option NodeId). (each (lower_field nodes (lower_at depth nodes) (merge_at depth nodes)) (attrs_from nodes 1 o) (state_of u)).0) e
 
@@ -124,12 +123,12 @@ unfolding pattern_of
 absent_none q e = rw (← e)
 
 -- a pattern, closed or with an ellipsis, may have fields
-with_fields : (q : Pattern) (m : MaybeName) → (q ≡ Closed) ⊎ (q ≡ Ellipsis) → (xs : List (Option NameId × Option ExprId)) → suits (lambda_sort m q) (map field_item xs) ≡ true
+with_fields : (q : Pattern) (m : rust.Option rust_name_id.NameId) → (q ≡ Closed) ⊎ (q ≡ Ellipsis) → (xs : List (Option NameId × Option ExprId)) → suits (lambda_sort m q) (map field_item xs) ≡ true
 unfolding lambda_sort tag_fits
-with_fields q maybe_name.Absent (inl e) xs = rw e (fields_suit 11 xs refl)
-with_fields q (maybe_name.Name x) (inl e) xs = rw e (fields_suit 12 xs refl)
-with_fields q maybe_name.Absent (inr e) xs = rw e (fields_suit 13 xs refl)
-with_fields q (maybe_name.Name x) (inr e) xs = rw e (fields_suit 14 xs refl)
+with_fields q rust.None (inl e) xs = rw e (fields_suit 11 xs refl)
+with_fields q (rust.Some x) (inl e) xs = rw e (fields_suit 12 xs refl)
+with_fields q rust.None (inr e) xs = rw e (fields_suit 13 xs refl)
+with_fields q (rust.Some x) (inr e) xs = rw e (fields_suit 14 xs refl)
 
 module _ (depth : ℕ) (s : List ℕ) (p : Option NodeId) (x : Param) (g : HasParam (nodes_of s) p x) where
   as_param : (st : State) → ◌≡◌ {A = (Option NameId × Option Pat) × State}
@@ -138,19 +137,19 @@ module _ (depth : ℕ) (s : List ℕ) (p : Option NodeId) (x : Param) (g : HasPa
   as_param st = rw (g.ident, g.owner, g.pattern) (param_as_lem (nodes_of s) (lower_at depth (nodes_of s)) (merge_at depth (nodes_of s)) p st)
 
   -- a Lambda may have the fields of its pattern, and without one there are none
-  param_suits : (name : MaybeName) (body : code_expr.ExprId) (u : List ℕ) → suits (sort_for (Lambda name x.pattern body)) (map field_item (fields_from depth (nodes_of s) x.owner u)) ≡ true
+  param_suits : (name : rust.Option rust_name_id.NameId) (body : code_expr.ExprId) (u : List ℕ) → suits (sort_for (Lambda name x.pattern body)) (map field_item (fields_from depth (nodes_of s) x.owner u)) ≡ true
   unfolding sort_for
   param_suits name body u = go x.pattern refl name
     where
       none_there : Absent ≡ x.pattern → fields_from depth (nodes_of s) x.owner u ≡ []
       none_there e = no_fields depth (nodes_of s) x.owner u (g.owner ∙ no_owner (nodes_of s) p (absent_none x.pattern e ∙ g.pattern))
 
-      go : (q : Pattern) → q ≡ x.pattern → (m : MaybeName) → suits (lambda_sort m q) (map field_item (fields_from depth (nodes_of s) x.owner u)) ≡ true
+      go : (q : Pattern) → q ≡ x.pattern → (m : rust.Option rust_name_id.NameId) → suits (lambda_sort m q) (map field_item (fields_from depth (nodes_of s) x.owner u)) ≡ true
       go Absent e m = rw (none_there e) (none_suit (lambda_sort m Absent))
       go Closed e m = with_fields Closed m (inl refl) (fields_from depth (nodes_of s) x.owner u)
       go Ellipsis e m = with_fields Ellipsis m (inr refl) (fields_from depth (nodes_of s) x.owner u)
 
-  param_lowers : (name : MaybeName) {u v : List ℕ} → Named depth spec.Param x.ident s (name_of name) u → Fields depth x.owner u v
+  param_lowers : (name : rust.Option rust_name_id.NameId) {u v : List ℕ} → Named depth spec.Param x.ident s (name_of name) u → Fields depth x.owner u v
       → Lowers (nodes_of s) (waiting_of s) (waiting_of s ++ map field_item (fields_from depth (nodes_of s) x.owner u)) 0
       (place (nodes_of s) (node_of x.ident) + (sizes (nodes_of s) (attrs_from (nodes_of s) 1 (node_of x.owner)) + 0)) (nothing ⊕ (nothing ⊕ nothing))
       (lower_param (nodes_of s) (lower_at depth (nodes_of s)) (merge_at depth (nodes_of s)) p) s
@@ -162,7 +161,7 @@ module _ (depth : ℕ) (s : List ℕ) (p : Option NodeId) (x : Param) (g : HasPa
 
 -- ---- the whole
 module _ (depth n base : ℕ) (at : Children) {s u v w t : List ℕ} {r : ℕ} where
-  pub lambda_lowers : (x : Param) (name : MaybeName) (body : code_expr.ExprId) → base ≡ length (waiting_of s) → HasChildren (nodes_of s) n at → HasParam (nodes_of s) (node_of at.first) x
+  pub lambda_lowers : (x : Param) (name : rust.Option rust_name_id.NameId) (body : code_expr.ExprId) → base ≡ length (waiting_of s) → HasChildren (nodes_of s) n at → HasParam (nodes_of s) (node_of at.first) x
       → Named depth (kind_of name_kind_lem.Param) x.ident s (name_of name) u → Fields depth x.owner u v → Opt depth at.second v body.0 w → Allocated (Lambda name x.pattern body) (pointer_of at.pointer) base w r t
       → Lowering 0 (below n) own_node (λ nodes. lower_lambda nodes (lower_at depth nodes) (merge_at depth nodes) n) s r t
   unfolding lower_lambda kind_of alloc_expr expr_made expr_with covers ◌⊕◌ price nothing one_expr own_node

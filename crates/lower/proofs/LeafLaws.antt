@@ -23,8 +23,6 @@ use Rattle.module.specs.Literals.{literal_of}
 use Rattle.module.specs.declared.expr.Expr.{Expr}
 use Rattle.module.specs.declared.expr.Expr.TheVariants as code
 use Rattle.module.specs.declared.ids.ExprId as code_expr
-use Rattle.module.specs.declared.ids.MaybeNode.{MaybeNode}
-use Rattle.module.specs.declared.ids.MaybeNode.TheVariants as maybe_node
 use Rattle.module.specs.declared.ids.NodeId as code_id
 use Rattle.module.specs.declared.ids.TextId as code_text
 use Rattle.module.specs.declared.literal.Literal as code_literal
@@ -37,10 +35,6 @@ use Rattle.store.specs.Codes.{sort_for, expr_made, hole_made}
 use Rattle.store.specs.Work.{Did, Takes, take_lone, put_name, name_with}
 use Rattle.keys.specs.AstUtils.{ident_name}
 use Rattle.keys.specs.Literals.{literal_held, alloc_literal, LiteralRead}
-use Rattle.module.specs.declared.ids.MaybeText.{MaybeText}
-use Rattle.module.specs.declared.ids.MaybeText.TheVariants as maybe_text_lem
-use Rattle.keys.specs.declared.literals.MaybeLiteral.{MaybeLiteral}
-use Rattle.keys.specs.declared.literals.MaybeLiteral.TheVariants as maybe_literal
 use Rattle.keys.proofs.AnswerLaws.{text_there, text_missing, literal_there, literal_valid, literal_missing}
 use Rattle.keys.proofs.LiteralLaws.{lowers_float, lowers_integer}
 use Rattle.merge.specs.Room.{nothing, one_expr, one_name, price, ◌⊕◌, covers}
@@ -50,6 +44,7 @@ use Rattle.merge.proofs.Steps.{gave, as_step, fits, all_lower}
 use Rattle.merge.proofs.Allocs.{taken_lone, missing_taken, named}
 use Rattle.lower.specs.Sizes.{sized, place}
 use Rattle.lower.specs.Parts.{lower_at, merge_at, form_of, IsForm}
+use Rattle.std.specs.Prelude as rust
 
 -- ---- an expression without items
 pub lone_taken : (s : List ℕ) (e : Expr) (p : Pointer) (base r : ℕ) (t : List ℕ) → base ≡ length (waiting_of s) → Takes (sort_for e) (expr_made s e p) base s r t
@@ -85,28 +80,28 @@ name_covered : covers 1 (one_name ⊕ nothing) nothing ≡ true
 unfolding covers ◌⊕◌ one_name nothing price
 name_covered = refl
 
-module _ (s : List ℕ) (k : NameKind) (m : MaybeNode) where
-  pub name_absent : m ≡ maybe_node.Absent → Lowering 0 (λ nodes. place nodes (node_of m)) nothing (λ nodes. lower_name nodes (lower_at 0 nodes) (merge_at 0 nodes) k (node_of m)) s none s
+module _ (s : List ℕ) (k : NameKind) (m : rust.Option code_id.NodeId) where
+  pub name_absent : m ≡ rust.None → Lowering 0 (λ nodes. place nodes (node_of m)) nothing (λ nodes. lower_name nodes (lower_at 0 nodes) (merge_at 0 nodes) k (node_of m)) s none s
   unfolding place node_of lower_name
   name_absent q = rw q (record { at = λ nodes w. gave none })
 
-  pub name_taken_lem : (n : code_id.NodeId) → m ≡ maybe_node.Node n → (x : Text) → x ≡ text (nodes_of s) n.0 → (p : Pointer) → p ≡ pointer (nodes_of s) n.0 → {r : ℕ} {t : List ℕ} → Did (put_name (name_with x k p)) s r t
+  pub name_taken_lem : (n : code_id.NodeId) → m ≡ rust.Some n → (x : Text) → x ≡ text (nodes_of s) n.0 → (p : Pointer) → p ≡ pointer (nodes_of s) n.0 → {r : ℕ} {t : List ℕ} → Did (put_name (name_with x k p)) s r t
       → Lowering 0 (λ nodes. place nodes (node_of m)) nothing (λ nodes. lower_name nodes (lower_at 0 nodes) (merge_at 0 nodes) k (node_of m)) s (some r) t
   unfolding place sized node_of lower_name
   name_taken_lem n q x a p b {r} {t} d = rw q (all_lower (rw (← a, ← b) (fits 1 (λ w. omega (arith, positive w n.0)) name_covered (steps.then {top' = 0} (λ i. give (some i)) (omega arith) (named x k p d) (gave (some r))))))
 
 -- ---- a literal
-module _ (s : List ℕ) (n : NodeId) (k : ℕ) (m : MaybeLiteral) (h : LiteralRead s (literal_held (nodes_of s) k n) m) where
-  pub literal_fits : (l : code_literal.Literal) → m ≡ maybe_literal.Literal l → ValidExpr (code.Literal l)
+module _ (s : List ℕ) (n : NodeId) (k : ℕ) (m : rust.Option code_literal.Literal) (h : LiteralRead s (literal_held (nodes_of s) k n) m) where
+  pub literal_fits : (l : code_literal.Literal) → m ≡ rust.Some l → ValidExpr (code.Literal l)
   unfolding ValidExpr
   literal_fits l q = literal_valid s m _ h l q
 
-  pub literal_taken : (l : code_literal.Literal) → m ≡ maybe_literal.Literal l → (p : Pointer) → p ≡ pointer (nodes_of s) n → {r : ℕ} {t : List ℕ}
+  pub literal_taken : (l : code_literal.Literal) → m ≡ rust.Some l → (p : Pointer) → p ≡ pointer (nodes_of s) n → {r : ℕ} {t : List ℕ}
       → Lowering 0 (λ _. 0) one_expr (λ _. alloc_expr (expr_with (text_in s) (code.Literal l) []) p) s r t → Lowering 0 (λ _. 0) one_expr (λ nodes. alloc_literal nodes n (literal_held nodes k n)) s r t
   unfolding expr_with alloc_literal
   literal_taken l q p b x = as_nodes (λ nodes. alloc_literal nodes n (literal_held nodes k n)) (rw (literal_there s m _ h l q, b)) x
 
-  pub literal_hole : m ≡ maybe_literal.Absent → {r : ℕ} {t : List ℕ} → Did (take_lone hole_made) s r t → Lowering 0 (λ _. 0) one_expr (λ nodes. alloc_literal nodes n (literal_held nodes k n)) s r t
+  pub literal_hole : m ≡ rust.None → {r : ℕ} {t : List ℕ} → Did (take_lone hole_made) s r t → Lowering 0 (λ _. 0) one_expr (λ nodes. alloc_literal nodes n (literal_held nodes k n)) s r t
   unfolding alloc_literal
   literal_hole q d = as_nodes (λ nodes. alloc_literal nodes n (literal_held nodes k n)) (rw (literal_missing s m _ h q)) (hole_taken d)
 
@@ -125,31 +120,31 @@ flag_nameless : (b : Bool) (x : Text) → ◌≡◌ {A = Option Text} (if b then
 flag_nameless true x e = let z : ◌≡◌ {A = ℕ} 0 1 = cc in absurd (omega arith)
 flag_nameless false x e = refl
 
-module _ (s : List ℕ) (n : NodeId) (p : Pointer) (b : p ≡ pointer (nodes_of s) n) (m : MaybeText) (e : maybe_text s m ≡ ident_name (nodes_of s) n) where
-  name_there : (x : code_text.TextId) → m ≡ maybe_text_lem.Text x → (eqb (flag (nodes_of s) n) 1 ≡ true) × (text (nodes_of s) n ≡ text_in s x.0)
+module _ (s : List ℕ) (n : NodeId) (p : Pointer) (b : p ≡ pointer (nodes_of s) n) (m : rust.Option code_text.TextId) (e : maybe_text s m ≡ ident_name (nodes_of s) n) where
+  name_there : (x : code_text.TextId) → m ≡ rust.Some x → (eqb (flag (nodes_of s) n) 1 ≡ true) × (text (nodes_of s) n ≡ text_in s x.0)
   name_there x q = flag_named (eqb (flag (nodes_of s) n) 1) (text (nodes_of s) n) (text_in s x.0) (text_there s m _ e x q)
 
-  name_missing : m ≡ maybe_text_lem.Absent → eqb (flag (nodes_of s) n) 1 ≡ false
+  name_missing : m ≡ rust.None → eqb (flag (nodes_of s) n) 1 ≡ false
   name_missing q = flag_nameless (eqb (flag (nodes_of s) n) 1) (text (nodes_of s) n) (text_missing s m _ e q)
 
-  pub ident_taken : (x : code_text.TextId) → m ≡ maybe_text_lem.Text x → {r : ℕ} {t : List ℕ} → Lowering 0 (λ _. 0) one_expr (λ _. alloc_expr (expr_with (text_in s) (code.Reference x) []) p) s r t
+  pub ident_taken : (x : code_text.TextId) → m ≡ rust.Some x → {r : ℕ} {t : List ℕ} → Lowering 0 (λ _. 0) one_expr (λ _. alloc_expr (expr_with (text_in s) (code.Reference x) []) p) s r t
       → Lowering 0 (λ _. 0) one_expr (λ nodes. lower_ident nodes (lower_at 0 nodes) (merge_at 0 nodes) n) s r t
   unfolding expr_with lower_ident
   ident_taken x q y = let z = name_there x q in as_nodes (λ nodes. lower_ident nodes (lower_at 0 nodes) (merge_at 0 nodes) n) (rw (z.0, z.1, b)) y
 
-  pub ident_hole : m ≡ maybe_text_lem.Absent → {r : ℕ} {t : List ℕ} → Lowering 0 (λ _. 0) one_expr (λ _. alloc_expr (expr_with (text_in s) code.Missing []) p) s r t
+  pub ident_hole : m ≡ rust.None → {r : ℕ} {t : List ℕ} → Lowering 0 (λ _. 0) one_expr (λ _. alloc_expr (expr_with (text_in s) code.Missing []) p) s r t
       → Lowering 0 (λ _. 0) one_expr (λ nodes. lower_ident nodes (lower_at 0 nodes) (merge_at 0 nodes) n) s r t
   unfolding expr_with lower_ident
   ident_hole q y = as_nodes (λ nodes. lower_ident nodes (lower_at 0 nodes) (merge_at 0 nodes) n) (rw (name_missing q, b)) y
 
-  pub attr_taken : (x : code_text.TextId) → m ≡ maybe_text_lem.Text x → {r : ℕ} {t : List ℕ} → Lowering 0 (λ _. 0) one_expr (λ _. alloc_expr (expr_with (text_in s) (code.Literal (literals.Text x)) []) p) s r t
+  pub attr_taken : (x : code_text.TextId) → m ≡ rust.Some x → {r : ℕ} {t : List ℕ} → Lowering 0 (λ _. 0) one_expr (λ _. alloc_expr (expr_with (text_in s) (code.Literal (literals.Text x)) []) p) s r t
       → Lowering 0 (λ _. 0) one_expr (λ nodes. when (eqb (flag nodes n) 1) (alloc_expr (literal (string (text nodes n))) (pointer nodes n)) alloc_missing) s r t
   unfolding expr_with literal_of when
   attr_taken x q y =
       let z = name_there x q in
       as_nodes (λ nodes. when (eqb (flag nodes n) 1) (alloc_expr (literal (string (text nodes n))) (pointer nodes n)) alloc_missing) (rw (z.0, z.1, b)) y
 
-  pub attr_hole : m ≡ maybe_text_lem.Absent → {r : ℕ} {t : List ℕ} → Did (take_lone hole_made) s r t
+  pub attr_hole : m ≡ rust.None → {r : ℕ} {t : List ℕ} → Did (take_lone hole_made) s r t
       → Lowering 0 (λ _. 0) one_expr (λ nodes. when (eqb (flag nodes n) 1) (alloc_expr (literal (string (text nodes n))) (pointer nodes n)) alloc_missing) s r t
   unfolding when
   attr_hole q d = as_nodes (λ nodes. when (eqb (flag nodes n) 1) (alloc_expr (literal (string (text nodes n))) (pointer nodes n)) alloc_missing) (rw (name_missing q)) (hole_taken d)

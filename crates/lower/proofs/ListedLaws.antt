@@ -17,9 +17,6 @@ use Rattle.module.specs.Ids.{node_of, expr_of, pointer_of}
 use Rattle.module.specs.Literals.{literal_of}
 use Rattle.module.specs.declared.ids.ExprId as code_expr
 use Rattle.module.specs.declared.ids.TextId as code_text
-use Rattle.module.specs.declared.ids.MaybeNode.{MaybeNode}
-use Rattle.module.specs.declared.ids.MaybeExpr.{MaybeExpr}
-use Rattle.module.specs.declared.ids.MaybeExpr.TheVariants as maybe_expr
 use Rattle.module.specs.declared.expr.Expr as code
 use Rattle.module.specs.declared.expr.Expr.TheVariants.{Literal, Select, HasAttr, StringInterpolation, PathInterpolation}
 use Rattle.module.specs.declared.expr.Item.TheVariants as code_item
@@ -33,8 +30,6 @@ use Rattle.rows.specs.Decoded.{expr_with, item_with}
 use Rattle.store.specs.Codes.{select_sort, sort_for, expr_made}
 use Rattle.store.specs.Work.{Did, Takes, suits, push_item}
 use Rattle.keys.specs.AstUtils.{Interpolated}
-use Rattle.module.specs.declared.ids.MaybeText.{MaybeText}
-use Rattle.module.specs.declared.ids.MaybeText.TheVariants as maybe_text_lem
 use Rattle.keys.proofs.AnswerLaws.{text_there, text_missing}
 use Rattle.merge.specs.Room.{price, ◌⊕◌, covers, nothing, one_expr, one_item, own_node}
 use Rattle.merge.specs.Lowers.{Lowering, Collecting}
@@ -47,6 +42,8 @@ use Rattle.lower.proofs.SizeLaws.{own_and_below, heft_place, kid_below, three_be
 use Rattle.lower.proofs.TurnLaws.{next}
 use Rattle.lower.proofs.WaitLaws.{children_back, parts_back, children_suit, parts_suit, pushed_giving, taken_from, all_collect}
 use Rattle.lower.proofs.ExprLaws.{Opt, There, Lone}
+use Rattle.module.specs.declared.ids.NodeId as rust_node_id
+use Rattle.std.specs.Prelude as rust
 
 -- ---- the contracts that the laws are about
 -- an expression with the items that wait from `base` on
@@ -54,12 +51,12 @@ abbrev pub Allocated : code.Expr → Pointer → ℕ → List ℕ → ℕ → Li
 Allocated e p base s r t = Takes (sort_for e) (expr_made s e p) base s r t
 
 -- a Select may have attributes, with a default and without
-select_suits : (set : code_expr.ExprId) (d : MaybeExpr) (es : List ExprId) → suits (sort_for (Select set d)) (map child es) ≡ true
+select_suits : (set : code_expr.ExprId) (d : rust.Option code_expr.ExprId) (es : List ExprId) → suits (sort_for (Select set d)) (map child es) ≡ true
 unfolding sort_for select_sort tag_fits
-select_suits set maybe_expr.Absent es = children_suit 22 es refl
-select_suits set (maybe_expr.Expr d) es = children_suit 23 es refl
+select_suits set rust.None es = children_suit 22 es refl
+select_suits set (rust.Some d) es = children_suit 23 es refl
 
-abbrev pub Attrpath : ℕ → MaybeNode → List ℕ → List ℕ → Type 0
+abbrev pub Attrpath : ℕ → rust.Option rust_node_id.NodeId → List ℕ → List ℕ → Type 0
 Attrpath depth p s t = Collecting 0 (λ nodes. place nodes (node_of p)) nothing (map child) (λ nodes. lower_attrpath_opt nodes (lower_at depth nodes) (merge_at depth nodes) (node_of p)) s t
 
 abbrev pub Parts : ℕ → NodeId → List ℕ → List ℕ → Type 0
@@ -67,7 +64,7 @@ Parts depth n s t = Collecting 0 (below n) nothing (map part_item) (λ nodes. ea
 
 -- ---- what has a path
 module _ (depth n base : ℕ) (at : Children) {s u v t : List ℕ} {r : ℕ} (b : base ≡ length (waiting_of s)) (h : HasChildren (nodes_of s) n at) (set : code_expr.ExprId) (x : Opt depth at.first s set.0 u) (y : Attrpath depth at.second u v) where
-  pub select_lowers : {w : List ℕ} (d : MaybeExpr) → There depth at.third v (expr_of d) w → Allocated (Select set d) (pointer_of at.pointer) base w r t
+  pub select_lowers : {w : List ℕ} (d : rust.Option code_expr.ExprId) → There depth at.third v (expr_of d) w → Allocated (Select set d) (pointer_of at.pointer) base w r t
       → Lowering 0 (below n) own_node (λ nodes. lower_select nodes (lower_at depth nodes) (merge_at depth nodes) n) s r t
   unfolding lower_select alloc_expr expr_made expr_with covers ◌⊕◌ price nothing one_expr own_node
   select_lowers d z a =
@@ -89,13 +86,13 @@ module _ (depth n base : ℕ) (at : Children) {s u v t : List ℕ} {r : ℕ} (b 
 
 -- ---- strings and paths
 module _ (depth n : ℕ) (p : Pointer) {s : List ℕ} (q : p ≡ pointer (nodes_of s) n) where
-  module _ (m : MaybeText) (e : maybe_text s m ≡ get_str_literal (nodes_of s) n) {r : ℕ} {t : List ℕ} where
-    pub string_literal : (x : code_text.TextId) → m ≡ maybe_text_lem.Text x → Lone (Literal (literals.Text x)) p s r t
+  module _ (m : rust.Option code_text.TextId) (e : maybe_text s m ≡ get_str_literal (nodes_of s) n) {r : ℕ} {t : List ℕ} where
+    pub string_literal : (x : code_text.TextId) → m ≡ rust.Some x → Lone (Literal (literals.Text x)) p s r t
         → Lowering 0 (below n) one_expr (λ nodes. lower_string nodes (lower_at depth nodes) (merge_at depth nodes) n) s r t
     unfolding lower_string string_as expr_with literal_of covers ◌⊕◌ price one_expr
     string_literal x o d = all_lower (rw (text_there s m _ e x o, ← q) (fits 0 (λ w. omega arith) refl (d.at (nodes_of s) (waiting_of s))))
 
-    pub string_parts : (base : ℕ) {u : List ℕ} → base ≡ length (waiting_of s) → m ≡ maybe_text_lem.Absent → Parts depth n s u → Allocated StringInterpolation p base u r t
+    pub string_parts : (base : ℕ) {u : List ℕ} → base ≡ length (waiting_of s) → m ≡ rust.None → Parts depth n s u → Allocated StringInterpolation p base u r t
         → Lowering 0 (below n) one_expr (λ nodes. lower_string nodes (lower_at depth nodes) (merge_at depth nodes) n) s r t
     unfolding lower_string string_as alloc_expr expr_made expr_with sort_for tag_fits covers ◌⊕◌ price nothing one_expr
     string_parts base b o y a =
@@ -131,7 +128,7 @@ module _ (depth n k : ℕ) {s : List ℕ} (e : k ≡ kind (nodes_of s) n) where
       all_collect (one part_item) {r = literal_part (text_in s x.0)}
       (rw (← e, ← f) (fits 1 (λ w. omega (arith, own_and_below w n)) refl (yes_when _ (eq-eqb k 32 o) (pushed_giving _ (literal_part (text_in s x.0)) d))))
 
-  pub part_expr : (p : MaybeNode) (x : code_expr.ExprId) {u t : List ℕ} → (k ≡ 32 → ⊥) → node_of p ≡ kid (nodes_of s) 0 n → Opt depth p s x.0 u → Did (push_item (item_with (text_in u) (code_item.Child x))) u tt t
+  pub part_expr : (p : rust.Option rust_node_id.NodeId) (x : code_expr.ExprId) {u t : List ℕ} → (k ≡ 32 → ⊥) → node_of p ≡ kid (nodes_of s) 0 n → Opt depth p s x.0 u → Did (push_item (item_with (text_in u) (code_item.Child x))) u tt t
       → Collecting 0 (λ nodes. sized nodes n) nothing (one part_item) (λ nodes. lower_part nodes (lower_at depth nodes) (merge_at depth nodes) n) s t
   unfolding lower_part part_item one item_with covers ◌⊕◌ price nothing one_expr one_item
   part_expr p x o f y d =
@@ -142,7 +139,7 @@ module _ (depth n k : ℕ) {s : List ℕ} (e : k ≡ kind (nodes_of s) n) where
 
   -- ---- an attribute of a path
   module _ {r : ℕ} {t : List ℕ} where
-    pub attr_dynamic : (p : MaybeNode) → k ≡ 24 → node_of p ≡ kid (nodes_of s) 0 n → Opt depth p s r t
+    pub attr_dynamic : (p : rust.Option rust_node_id.NodeId) → k ≡ 24 → node_of p ≡ kid (nodes_of s) 0 n → Opt depth p s r t
         → Lowering 0 (below n) one_expr (λ nodes. lower_attr nodes (lower_at depth nodes) (merge_at depth nodes) n) s r t
     unfolding lower_attr covers price one_expr
     attr_dynamic p o f y =

@@ -16,8 +16,6 @@ use Rattle.spec.specs.Merge.{attributes, inherit_source, inherit_attr, merge_inh
 use Rattle.spec.specs.Lower.{lower_expr, lower_part, lower_attr, lower_attrpath_opt, lower_field, lower_list}
 use Rattle.spec.proofs.tree.Sizes.{Weighs, all_items}
 use Rattle.module.specs.Ids.{node_of, expr_of, pointer_of}
-use Rattle.module.specs.declared.ids.MaybeNode.{MaybeNode}
-use Rattle.module.specs.declared.ids.MaybeExpr.{MaybeExpr}
 use Rattle.module.specs.declared.ids.ExprId as code_id
 use Rattle.module.specs.declared.pointer.Pointer as code_pointer
 use Rattle.module.specs.declared.expr.Expr.TheVariants as code_expr
@@ -41,6 +39,8 @@ use Rattle.lower.specs.Sizes.{sized, below, sizes, place}
 use Rattle.lower.proofs.SizeLaws.{own_and_below, after_size}
 use Rattle.lower.proofs.WaitLaws.{children_back, children_suit, taken_from, all_collect}
 use Rattle.lower.proofs.Loops.{then_pushed, Merges, Gathering, gathering_turn, gathering_end, Merging, merging_end}
+use Rattle.module.specs.declared.ids.NodeId as rust_node_id
+use Rattle.std.specs.Prelude as rust
 
 -- ---- sizes: all items of a node are below it
 items_below : {nodes : List Node} (w : Weighs nodes) (n : NodeId) → sizes nodes (items nodes n) + 1 ≤ sized nodes n
@@ -149,7 +149,7 @@ InheritsLeft depth into set n s i u =
 pub inherits_start : (depth : ℕ) (into : SetId) (set : Option ExprId) (n : NodeId) (s : List ℕ) → InheritsLeft depth into set n s 1 s
 inherits_start depth into set n s = record { long = refl; nodes_are = refl; whole = λ t r. r }
 
-pub inherits_end : (depth : ℕ) (into : SetId) (n : NodeId) (from : MaybeNode) (set : MaybeExpr) {s u : List ℕ} {i : ℕ} {t : List ℕ} → node_of from ≡ kid (nodes_of s) 0 n
+pub inherits_end : (depth : ℕ) (into : SetId) (n : NodeId) (from : rust.Option rust_node_id.NodeId) (set : rust.Option code_id.ExprId) {s u : List ℕ} {i : ℕ} {t : List ℕ} → node_of from ≡ kid (nodes_of s) 0 n
     → Lowering (suc into) (λ nodes. place nodes (node_of from)) nothing (λ nodes. inherit_source nodes (lower_at depth nodes) (merge_at depth nodes) into (node_of from)) s (expr_of set) u
     → InheritsLeft depth into (expr_of set) n u i t → attrs_from (nodes_of t) i (some n) ≡ []
     → Lowering (suc into) (λ nodes. sized nodes n) nothing (λ nodes. merge_inherit nodes (lower_at depth nodes) (merge_at depth nodes) into n) s tt t

@@ -22,10 +22,6 @@ use Rattle.module.specs.Ids.{node_of, expr_of, binding_of, pointer_of}
 use Rattle.module.specs.declared.ids.NodeId as code_node
 use Rattle.module.specs.declared.ids.ExprId as code_expr
 use Rattle.module.specs.declared.ids.TextId as code_text
-use Rattle.module.specs.declared.ids.MaybeNode.{MaybeNode}
-use Rattle.module.specs.declared.ids.MaybeNode.TheVariants as maybe_node
-use Rattle.module.specs.declared.ids.MaybeExpr.{MaybeExpr}
-use Rattle.module.specs.declared.ids.MaybeExpr.TheVariants as maybe_expr
 use Rattle.module.specs.declared.ids.BindingValue.{BindingValue}
 use Rattle.module.specs.declared.ids.BindingValue.TheVariants as binding
 use Rattle.module.specs.declared.pointer.Pointer.{Pointer}
@@ -47,39 +43,38 @@ use Rattle.lower.specs.Sizes.{sized, below, sizes, place, heft}
 use Rattle.lower.specs.Reads.{HasChildren, attrs_from, FirstIn, nested_for, into_of, GoesInto}
 use Rattle.lower.specs.Parts.{lower_at, merge_at}
 use Rattle.lower.specs.declared.reads.Children.{Children}
-use Rattle.lower.specs.declared.reads.IntoSet.{IntoSet}
-use Rattle.lower.specs.declared.reads.IntoSet.TheVariants.{Merged, Other}
 use Rattle.lower.proofs.SizeLaws.{heft_place, own_and_below, kid_below, three_below}
 use Rattle.lower.proofs.TurnLaws.{next}
 use Rattle.lower.proofs.ExprLaws.{Opt}
 use Rattle.lower.proofs.Opens.{in_setting, at_open, with_open}
 use Rattle.lower.proofs.KeySizes.{attributes_are, attrs_place, entries_size, key_heft}
+use Rattle.std.specs.Prelude as rust
 
 -- ---- the contracts that the laws are about
-abbrev pub Pushed : ℕ → SetId → MaybeNode → MaybeNode → List ℕ → List ℕ → Type 0
+abbrev pub Pushed : ℕ → SetId → rust.Option code_node.NodeId → rust.Option code_node.NodeId → List ℕ → List ℕ → Type 0
 Pushed depth set key value s t =
     Lowering (suc set) (λ nodes. heft (node_of key) nodes + heft (node_of value) nodes) (price 3 1 0 0 0 1) (λ nodes. push_dynamic nodes (lower_at depth nodes) (merge_at depth nodes) set (node_of key) (node_of value)) s tt t
 
-abbrev pub Keyed : ℕ → SetId → Text → NodeId → MaybeNode → List ℕ → List ℕ → Type 0
+abbrev pub Keyed : ℕ → SetId → Text → NodeId → rust.Option code_node.NodeId → List ℕ → List ℕ → Type 0
 Keyed depth set key n value s t =
     Lowering (suc set) (λ nodes. place nodes (node_of value)) (price 2 1 1 2 0 1) (λ nodes. merge_keyed nodes (lower_at depth nodes) (merge_at depth nodes) set key n (node_of value)) s tt t
 
-abbrev pub AttrValue : ℕ → SetId → NodeId → MaybeNode → List ℕ → List ℕ → Type 0
+abbrev pub AttrValue : ℕ → SetId → NodeId → rust.Option code_node.NodeId → List ℕ → List ℕ → Type 0
 AttrValue depth set n value s t =
     Lowering (suc set) (λ nodes. sized nodes n + place nodes (node_of value)) nothing (λ nodes. merge_attr_value nodes (lower_at depth nodes) (merge_at depth nodes) set n (node_of value)) s tt t
 
 -- the attribute n, and then those of a path
-abbrev pub Nested : ℕ → SetId → MaybeNode → NodeId → ℕ → MaybeNode → List ℕ → List ℕ → Type 0
+abbrev pub Nested : ℕ → SetId → rust.Option code_node.NodeId → NodeId → ℕ → rust.Option code_node.NodeId → List ℕ → List ℕ → Type 0
 Nested depth set way n after value s t =
     Lowering (suc set) (λ nodes. sized nodes n + (sizes nodes (attrs_from nodes after (node_of way)) + place nodes (node_of value))) nothing
     (λ nodes. merge_nested_attr_value nodes (lower_at depth nodes) (merge_at depth nodes) set n (attrs_from nodes after (node_of way)) (node_of value)) s tt t
 
-abbrev pub Step : ℕ → SetId → MaybeNode → NodeId → NodeId → ℕ → MaybeNode → List ℕ → List ℕ → Type 0
+abbrev pub Step : ℕ → SetId → rust.Option code_node.NodeId → NodeId → NodeId → ℕ → rust.Option code_node.NodeId → List ℕ → List ℕ → Type 0
 Step depth set way n a after value s t =
     Lowering (suc set) (λ nodes. sized nodes n + (sized nodes a + (sizes nodes (attrs_from nodes after (node_of way)) + place nodes (node_of value)))) nothing
     (λ nodes. merge_nested_attr_value nodes (lower_at depth nodes) (merge_at depth nodes) set n (a ∷ attrs_from nodes after (node_of way)) (node_of value)) s tt t
 
-abbrev pub Nest : ℕ → Pointer → MaybeNode → NodeId → ℕ → MaybeNode → List ℕ → ExprId → List ℕ → Type 0
+abbrev pub Nest : ℕ → Pointer → rust.Option code_node.NodeId → NodeId → ℕ → rust.Option code_node.NodeId → List ℕ → ExprId → List ℕ → Type 0
 Nest depth p way n after value s r t =
     Lowering 0 (λ nodes. sized nodes n + (sizes nodes (attrs_from nodes after (node_of way)) + place nodes (node_of value))) one_set
     (λ nodes. inner (new_nested (pointer_of p) >>= λ set. merge_nested_attr_value nodes (lower_at depth nodes) (merge_at depth nodes) set n (attrs_from nodes after (node_of way)) (node_of value) >>= λ _. finish_expr set)) s r t
@@ -91,7 +86,7 @@ abbrev pub Valued : SetId → Text → Pointer → BindingValue → List ℕ →
 Valued set key p v s t = Lowering (suc set) (λ _. 0) value_price (λ _. merge_static_value set key (pointer_of p) (binding_of v)) s tt t
 
 -- ---- push_dynamic
-pub dynamic_pushed : (depth : ℕ) (set : SetId) (key value : MaybeNode) {s u v t : List ℕ} {k e : ExprId} → Opt depth key s k u → Opt depth value u e v → Dynamics set k e v t → Pushed depth set key value s t
+pub dynamic_pushed : (depth : ℕ) (set : SetId) (key value : rust.Option code_node.NodeId) {s u v t : List ℕ} {k e : ExprId} → Opt depth key s k u → Opt depth value u e v → Dynamics set k e v t → Pushed depth set key value s t
 unfolding push_dynamic covers ◌⊕◌ price one_expr one_entry
 dynamic_pushed depth set key value x y d = record {
   at = λ nodes w.
@@ -144,8 +139,8 @@ nested_opened : (set : SetId) (key : Text) (s : List ℕ) (t : SetId) → Lowera
 unfolding state_of
 nested_opened set key s t ready e = nested_below set key (state_of s) t ready.standing e
 
-module _ (depth : ℕ) (set : SetId) (n : NodeId) (value : MaybeNode) (into : IntoSet) {s t : List ℕ} where
-  pub keyed_merged : (key : Text) (i : code_set.SetId) (v : code_node.NodeId) → GoesInto s set key (node_of value) into → into ≡ Merged i v
+module _ (depth : ℕ) (set : SetId) (n : NodeId) (value : rust.Option code_node.NodeId) (into : rust.Option (code_set.SetId × code_node.NodeId)) {s t : List ℕ} where
+  pub keyed_merged : (key : Text) (i : code_set.SetId) (v : code_node.NodeId) → GoesInto s set key (node_of value) into → into ≡ rust.Some (i, v)
       → Lowering (suc i.0) (below v.0) nothing (λ nodes. merge_bindings nodes depth i.0 v.0) s tt t → Keyed depth set key n value s t
   unfolding into_of merge_keyed merge_into place covers price nothing
   keyed_merged key i v g q x = all_lower (in_setting (x.at [] []).wrote (x.at [] []).still λ c. go (into_there ns (nested_at (find set key (state_of s)) (state_of s)) (node_of value) i.0 v.0 (told c)))
@@ -164,7 +159,7 @@ module _ (depth : ℕ) (set : SetId) (n : NodeId) (value : MaybeNode) (into : In
           (asked _ _ {a = some i.0} (λ _. sym h.0)
           (at_open (λ c. nested_opened set key s i.0 c.ready h.0) (fits 0 (λ w. omega (arith, own_and_below w v.0)) refl (x.at ns (waiting_of s))))))
 
-  pub keyed_other : (key : code_text.TextId) (p : Pointer) (e : code_expr.ExprId) {u : List ℕ} → GoesInto s set (text_in s key.0) (node_of value) into → into ≡ Other → pointer_of p ≡ pointer (nodes_of s) n
+  pub keyed_other : (key : code_text.TextId) (p : Pointer) (e : code_expr.ExprId) {u : List ℕ} → GoesInto s set (text_in s key.0) (node_of value) into → into ≡ rust.None → pointer_of p ≡ pointer (nodes_of s) n
       → Opt depth value s e.0 u → Valued set (text_in u key.0) p (binding.Expr e) u t → Keyed depth set (text_in s key.0) n value s t
   unfolding into_of merge_lowered binding_of covers ◌⊕◌ price one_expr value_price
   keyed_other key p e {u} g q h x d =
@@ -177,17 +172,17 @@ module _ (depth : ℕ) (set : SetId) (n : NodeId) (value : MaybeNode) (into : In
 -- ---- the key of an attribute
 module _ (depth : ℕ) (set : SetId) (n : NodeId) (k : AttrKind) {s : List ℕ} (e : attr_kind_of s k ≡ attr_kind (nodes_of s) n) where
   -- ---- attr_value
-  pub value_static : (value : MaybeNode) (key : code_text.TextId) {t : List ℕ} → k ≡ Static key → Keyed depth set (text_in s key.0) n value s t → AttrValue depth set n value s t
+  pub value_static : (value : rust.Option code_node.NodeId) (key : code_text.TextId) {t : List ℕ} → k ≡ Static key → Keyed depth set (text_in s key.0) n value s t → AttrValue depth set n value s t
   unfolding merge_attr_value merge_attr_as covers price nothing
   value_static value key q x = all_lower (rw (key_static s k _ e key q) (fits 1 (λ w. omega (arith, own_and_below w n)) refl (x.at _ _)))
 
-  pub value_dynamic : (value : MaybeNode) (key : MaybeNode) {t : List ℕ} → k ≡ Dynamic key → Pushed depth set key value s t → AttrValue depth set n value s t
+  pub value_dynamic : (value : rust.Option code_node.NodeId) (key : rust.Option code_node.NodeId) {t : List ℕ} → k ≡ Dynamic key → Pushed depth set key value s t → AttrValue depth set n value s t
   unfolding merge_attr_value merge_attr_as covers price nothing
   value_dynamic value key q x =
       all_lower (rw (key_dynamic s k _ e key q) (fits 1 (λ w. omega (arith, key_heft w n (node_of key) (key_dynamic s k _ e key q), heft_place (nodes_of s) (node_of value))) refl (x.at _ _)))
 
   -- ---- step
-  module _ (p : Pointer) (h : pointer_of p ≡ pointer (nodes_of s) n) (way : MaybeNode) (a after : ℕ) (value : MaybeNode) where
+  module _ (p : Pointer) (h : pointer_of p ≡ pointer (nodes_of s) n) (way : rust.Option code_node.NodeId) (a after : ℕ) (value : rust.Option code_node.NodeId) where
     pub step_static : (key : code_text.TextId) {r : SetId} {u t : List ℕ} → k ≡ Static key → Lowering (suc set) (λ _. 0) nested_price (λ _. get_or_create_nested_static set (text_in s key.0) (pointer_of p)) s r u
         → Nested depth r way a after value u t → Step depth set way n a after value s t
     unfolding merge_nested_attr_value merge_step_as covers ◌⊕◌ price nothing nested_price
@@ -196,7 +191,7 @@ module _ (depth : ℕ) (set : SetId) (n : NodeId) (k : AttrKind) {s : List ℕ} 
         (rw (key_static s k _ e key q, ← h)
         (fits 1 (λ w. omega (arith, own_and_below w n)) refl (then_open _ (x.at _ _) (λ c l. nested_open set (text_in s key.0) (pointer_of p) c.opened c.ready l) (y.at _ _))))
 
-    pub step_dynamic : (key : MaybeNode) {f g : ExprId} {u v t : List ℕ} → k ≡ Dynamic key → Nest depth p way a after value s f u → Opt depth key u g v → Dynamics set g f v t → Step depth set way n a after value s t
+    pub step_dynamic : (key : rust.Option code_node.NodeId) {f g : ExprId} {u v t : List ℕ} → k ≡ Dynamic key → Nest depth p way a after value s f u → Opt depth key u g v → Dynamics set g f v t → Step depth set way n a after value s t
     unfolding merge_nested_attr_value merge_step_as covers ◌⊕◌ price nothing one_set one_expr one_entry
     step_dynamic key q x y d =
         all_lower
@@ -205,7 +200,7 @@ module _ (depth : ℕ) (set : SetId) (n : NodeId) (k : AttrKind) {s : List ℕ} 
         (next _ (with_open (suc set) (omega arith) (x.at _ _)) (next _ (with_open (suc set) (omega arith) (y.at _ _)) (d.at _ _)))))
 
   -- ---- inherit
-  pub inherit_static : (origin : MaybeExpr) (p : Pointer) (key : code_text.TextId) (v : BindingValue) {u t : List ℕ} → pointer_of p ≡ pointer (nodes_of s) n → k ≡ Static key
+  pub inherit_static : (origin : rust.Option code_expr.ExprId) (p : Pointer) (key : code_text.TextId) (v : BindingValue) {u t : List ℕ} → pointer_of p ≡ pointer (nodes_of s) n → k ≡ Static key
       → Inherits (expr_of origin) (text_in s key.0) (pointer_of p) s (binding_of v) u → Valued set (text_in u key.0) p v u t
       → Lowering (suc set) (λ nodes. sized nodes n) nothing (λ nodes. inherit_attr nodes (lower_at depth nodes) (merge_at depth nodes) set (expr_of origin) n) s tt t
   unfolding inherit_attr inherit_as covers ◌⊕◌ price nothing inherit_price value_price
@@ -215,14 +210,14 @@ module _ (depth : ℕ) (set : SetId) (n : NodeId) (k : AttrKind) {s : List ℕ} 
       let y = rw (text_still s u key.0 z.still) at (d.at ns (waiting_of s)) in
       all_lower (rw (key_static s k _ e key q, ← h) (fits 1 (λ w. omega (arith, own_and_below w n)) refl (next _ (with_open (suc set) (omega arith) z) y)))
 
-  pub inherit_dynamic : (origin : MaybeExpr) (key : MaybeNode) {t : List ℕ} → k ≡ Dynamic key → Pushed depth set maybe_node.Absent key s t
+  pub inherit_dynamic : (origin : rust.Option code_expr.ExprId) (key : rust.Option code_node.NodeId) {t : List ℕ} → k ≡ Dynamic key → Pushed depth set rust.None key s t
       → Lowering (suc set) (λ nodes. sized nodes n) nothing (λ nodes. inherit_attr nodes (lower_at depth nodes) (merge_at depth nodes) set (expr_of origin) n) s tt t
   unfolding inherit_attr inherit_as node_of heft covers price nothing
   inherit_dynamic origin key q x =
       all_lower (rw (key_dynamic s k _ e key q) (fits 1 (λ w. omega (arith, key_heft w n (node_of key) (key_dynamic s k _ e key q))) refl (x.at _ _)))
 
 -- ---- nested: the last attribute, or one before the end
-module _ (depth : ℕ) (set : SetId) (way : MaybeNode) (n after : ℕ) (value : MaybeNode) {s t : List ℕ} where
+module _ (depth : ℕ) (set : SetId) (way : rust.Option code_node.NodeId) (n after : ℕ) (value : rust.Option code_node.NodeId) {s t : List ℕ} where
   pub nested_last : attrs_from (nodes_of s) after (node_of way) ≡ [] → AttrValue depth set n value s t → Nested depth set way n after value s t
   unfolding merge_nested_attr_value sizes covers price nothing
   nested_last e x = all_lower (rw e (fits 0 (λ _. omega arith) refl (x.at _ _)))
@@ -237,7 +232,7 @@ AttrpathVal depth set n s t = Lowering (suc set) (λ nodes. sized nodes n) nothi
 
 module _ (depth : ℕ) (set : SetId) (n : NodeId) (at : Children) {s t : List ℕ} (h : HasChildren (nodes_of s) n at) where
   -- a path without an attribute
-  pub attrpath_none : attrs_from (nodes_of s) 0 (node_of at.first) ≡ [] → Pushed depth set maybe_node.Absent at.second s t → AttrpathVal depth set n s t
+  pub attrpath_none : attrs_from (nodes_of s) 0 (node_of at.first) ≡ [] → Pushed depth set rust.None at.second s t → AttrpathVal depth set n s t
   unfolding merge_attrpath_val merge_path node_of heft covers price nothing
   attrpath_none e x =
       let ns = nodes_of s in
@@ -256,10 +251,10 @@ module _ (depth : ℕ) (set : SetId) (n : NodeId) (at : Children) {s t : List �
       (fits 0 (λ w. omega (arith, three_below w h, own_and_below w n, attrs_place w (node_of at.first), ap (sizes ns) f.items)) refl (x.at ns (waiting_of s))))
 
 -- ---- src
-module _ (depth : ℕ) (set : SetId) (place' : MaybeNode) {s : List ℕ} where
-  pub source_there : (f : code_node.NodeId) (p : MaybeNode) (e : code_expr.ExprId) {u t : List ℕ} → place' ≡ maybe_node.Node f → node_of p ≡ kid (nodes_of s) 0 f.0 → Opt depth p s e.0 u
+module _ (depth : ℕ) (set : SetId) (place' : rust.Option code_node.NodeId) {s : List ℕ} where
+  pub source_there : (f : code_node.NodeId) (p : rust.Option code_node.NodeId) (e : code_expr.ExprId) {u t : List ℕ} → place' ≡ rust.Some f → node_of p ≡ kid (nodes_of s) 0 f.0 → Opt depth p s e.0 u
       → Lowering (suc set) (λ _. 0) one_entry (λ _. add_entry (source set e.0)) u tt t
-      → Lowering (suc set) (λ nodes. place nodes (node_of place')) nothing (λ nodes. inherit_source nodes (lower_at depth nodes) (merge_at depth nodes) set (node_of place')) s (expr_of (maybe_expr.Expr e)) t
+      → Lowering (suc set) (λ nodes. place nodes (node_of place')) nothing (λ nodes. inherit_source nodes (lower_at depth nodes) (merge_at depth nodes) set (node_of place')) s (expr_of (rust.Some e)) t
   unfolding inherit_source node_of expr_of place covers ◌⊕◌ price nothing one_expr one_entry
   source_there f p e q h x d =
       rw q (all_lower
@@ -267,8 +262,8 @@ module _ (depth : ℕ) (set : SetId) (place' : MaybeNode) {s : List ℕ} where
       (fits 1 (λ w. let k : place (nodes_of s) (node_of p) ≤ below f.0 (nodes_of s) = rw h (kid_below w f.0) in omega (arith, own_and_below w f.0, heft_place (nodes_of s) (node_of p))) refl
       (next _ (with_open (suc set) (omega arith) (x.at _ _)) (next _ (d.at _ _) (gave _))))))
 
-  pub source_none : place' ≡ maybe_node.Absent
-      → Lowering (suc set) (λ nodes. place nodes (node_of place')) nothing (λ nodes. inherit_source nodes (lower_at depth nodes) (merge_at depth nodes) set (node_of place')) s (expr_of maybe_expr.Absent) s
+  pub source_none : place' ≡ rust.None
+      → Lowering (suc set) (λ nodes. place nodes (node_of place')) nothing (λ nodes. inherit_source nodes (lower_at depth nodes) (merge_at depth nodes) set (node_of place')) s (expr_of rust.None) s
   unfolding inherit_source node_of expr_of place
   source_none q = rw q (record { at = λ nodes w. gave none })
 

@@ -18,8 +18,6 @@ use Rattle.spec.specs.Merge.{find, nested_at, entries_of}
 use Rattle.module.specs.Ids.{node_of}
 use Rattle.module.specs.declared.expr.Pattern.{Pattern}
 use Rattle.module.specs.declared.expr.Pattern.TheVariants as pattern_kind
-use Rattle.module.specs.declared.ids.MaybeNode.{MaybeNode}
-use Rattle.module.specs.declared.ids.MaybeNode.TheVariants as maybe_node
 use Rattle.module.specs.declared.ids.NodeId as code_id
 use Rattle.layout.specs.Layout.{kid_limit, node_row, nodes_at}
 use Rattle.layout.specs.Nodes.{first_kid, nodes_of}
@@ -27,26 +25,21 @@ use Rattle.layout.specs.States.{state_of}
 use Rattle.layout.proofs.RowLaws.{cap_lim}
 use Rattle.intake.proofs.NodeLaws.{kids_many, kids_none}
 use Rattle.keys.specs.Items.{Next}
-use Rattle.keys.specs.declared.items.NextItem.{NextItem}
-use Rattle.keys.specs.declared.items.NextItem.TheVariants.{End, Item}
 use Rattle.keys.proofs.ItemLaws.{items_are, items_after_are}
 use Rattle.open_sets.specs.Entries.{maybe_set_of}
 use Rattle.open_sets.specs.declared.entry.SetId as code_set
-use Rattle.open_sets.specs.declared.entry.MaybeSet.{MaybeSet}
-use Rattle.open_sets.specs.declared.entry.MaybeSet.TheVariants as maybe_set
 use Rattle.merge.specs.Lowers.{Lowerable}
 use Rattle.lower.specs.Reads.{ident_of, owner_of, ellipsis_of, pattern_of, HasParam, attrs_from, FirstIn, NextIn, FirstEntry, nested_for, into_of, GoesInto}
 use Rattle.lower.specs.declared.reads.Param.{Param}
-use Rattle.lower.specs.declared.reads.IntoSet.{IntoSet}
-use Rattle.lower.specs.declared.reads.IntoSet.TheVariants.{Merged, Other}
+use Rattle.std.specs.Prelude as rust
 
 -- ---- a kid of a place that may be absent
-module _ (nodes : List Node) (place : MaybeNode) where
-  pub kid_of_node : (n : code_id.NodeId) → place ≡ maybe_node.Node n → {o : Option NodeId} → o ≡ kid nodes 0 n.0 → o ≡ kid_of nodes 0 (node_of place)
+module _ (nodes : List Node) (place : rust.Option code_id.NodeId) where
+  pub kid_of_node : (n : code_id.NodeId) → place ≡ rust.Some n → {o : Option NodeId} → o ≡ kid nodes 0 n.0 → o ≡ kid_of nodes 0 (node_of place)
   unfolding kid_of node_of
   kid_of_node n q e = rw q e
 
-  pub kid_of_none : place ≡ maybe_node.Absent → none ≡ kid_of nodes 0 (node_of place)
+  pub kid_of_none : place ≡ rust.None → none ≡ kid_of nodes 0 (node_of place)
   unfolding kid_of node_of
   kid_of_none q = rw q
 
@@ -60,8 +53,8 @@ module _ (nodes : List Node) (n : NodeId) (f : ℕ) (e : f ≡ flag nodes n) whe
   unfolding pattern_of
   pattern_closed h = rw (← e, ne_eqb f 1 h)
 
-module _ (nodes : List Node) (n : code_id.NodeId) (k : ℕ) (e : k ≡ kind nodes n.0) (first : MaybeNode) (q : node_of first ≡ kid nodes 0 n.0) where
-  pub param_ident : k ≡ 28 → HasParam nodes (some n.0) (record { ident = first; owner = maybe_node.Absent; pattern = pattern_kind.Absent })
+module _ (nodes : List Node) (n : code_id.NodeId) (k : ℕ) (e : k ≡ kind nodes n.0) (first : rust.Option code_id.NodeId) (q : node_of first ≡ kid nodes 0 n.0) where
+  pub param_ident : k ≡ 28 → HasParam nodes (some n.0) (record { ident = first; owner = rust.None; pattern = pattern_kind.Absent })
   unfolding ident_of owner_of ellipsis_of pattern_of node_of
   param_ident h =
       record {
@@ -70,8 +63,8 @@ module _ (nodes : List Node) (n : code_id.NodeId) (k : ℕ) (e : k ≡ kind node
         pattern = rw (← e, eq-eqb k 28 h);
       }
 
-  pub param_pattern : (k ≡ 28 → ⊥) → (x : MaybeNode) → node_of x ≡ kid_of nodes 0 (node_of first) → (p : Pattern) → pattern_of p ≡ some (eqb (flag nodes n.0) 1)
-      → HasParam nodes (some n.0) (record { ident = x; owner = maybe_node.Node n; pattern = p })
+  pub param_pattern : (k ≡ 28 → ⊥) → (x : rust.Option code_id.NodeId) → node_of x ≡ kid_of nodes 0 (node_of first) → (p : Pattern) → pattern_of p ≡ some (eqb (flag nodes n.0) 1)
+      → HasParam nodes (some n.0) (record { ident = x; owner = rust.Some n; pattern = p })
   unfolding ident_of owner_of ellipsis_of node_of
   param_pattern h x a p b =
       record {
@@ -80,12 +73,12 @@ module _ (nodes : List Node) (n : code_id.NodeId) (k : ℕ) (e : k ≡ kind node
         pattern = rw (← e, ne_eqb k 28 h) b;
       }
 
-module _ (nodes : List Node) (place : MaybeNode) where
-  pub param_node : (n : code_id.NodeId) → place ≡ maybe_node.Node n → {r : Param} → HasParam nodes (some n.0) r → HasParam nodes (node_of place) r
+module _ (nodes : List Node) (place : rust.Option code_id.NodeId) where
+  pub param_node : (n : code_id.NodeId) → place ≡ rust.Some n → {r : Param} → HasParam nodes (some n.0) r → HasParam nodes (node_of place) r
   unfolding node_of
   param_node n q p = rw q p
 
-  pub param_none : place ≡ maybe_node.Absent → HasParam nodes (node_of place) (record { ident = maybe_node.Absent; owner = maybe_node.Absent; pattern = pattern_kind.Absent })
+  pub param_none : place ≡ rust.None → HasParam nodes (node_of place) (record { ident = rust.None; owner = rust.None; pattern = pattern_kind.Absent })
   unfolding ident_of owner_of ellipsis_of pattern_of node_of
   param_none q = rw q (record { ident = refl; owner = refl; pattern = refl })
 
@@ -100,27 +93,27 @@ kids_few s n = go (ltb n (length (nodes_of s))) refl
     go false q = omega (arith, kids_none s n (ltb-false n _ q))
 
 -- the next item of a node, as that of a place
-pub next_of_node : (s : List ℕ) (i : ℕ) (n : NodeId) (r : NextItem) → Next (nodes_of s) i n r → NextIn (nodes_of s) i (some n) r
+pub next_of_node : (s : List ℕ) (i : ℕ) (n : NodeId) (r : rust.Option (code_id.NodeId × ℕ)) → Next (nodes_of s) i n r → NextIn (nodes_of s) i (some n) r
 unfolding Next NextIn attrs_from
-next_of_node s i n End e = e
-next_of_node s i n (Item k j) e = record { items = e.items; onward = e.onward; inside = omega (arith, e.inside, kids_few s n) }
+next_of_node s i n rust.None e = e
+next_of_node s i n (rust.Some (k, j)) e = record { items = e.items; onward = e.onward; inside = omega (arith, e.inside, kids_few s n) }
 
-module _ (s : List ℕ) (i : ℕ) (place : MaybeNode) where
-  pub next_node : (n : code_id.NodeId) → place ≡ maybe_node.Node n → (r : NextItem) → Next (nodes_of s) i n.0 r → NextIn (nodes_of s) i (node_of place) r
+module _ (s : List ℕ) (i : ℕ) (place : rust.Option code_id.NodeId) where
+  pub next_node : (n : code_id.NodeId) → place ≡ rust.Some n → (r : rust.Option (code_id.NodeId × ℕ)) → Next (nodes_of s) i n.0 r → NextIn (nodes_of s) i (node_of place) r
   unfolding node_of
   next_node n q r e = rw q (next_of_node s i n.0 r e)
 
-  pub next_none : place ≡ maybe_node.Absent → NextIn (nodes_of s) i (node_of place) End
+  pub next_none : place ≡ rust.None → NextIn (nodes_of s) i (node_of place) rust.None
   unfolding node_of NextIn attrs_from
   next_none q = rw q
 
 -- what a caller knows of the answer
-module _ (nodes : List Node) (i : ℕ) (place : Option NodeId) (r : NextItem) (e : NextIn nodes i place r) where
-  pub in_end : r ≡ End → attrs_from nodes i place ≡ []
+module _ (nodes : List Node) (i : ℕ) (place : Option NodeId) (r : rust.Option (code_id.NodeId × ℕ)) (e : NextIn nodes i place r) where
+  pub in_end : r ≡ rust.None → attrs_from nodes i place ≡ []
   unfolding NextIn
   in_end q = rw q at e
 
-  pub in_first : (k : code_id.NodeId) (j : ℕ) → r ≡ Item k j → FirstIn nodes i place k.0 j
+  pub in_first : (k : code_id.NodeId) (j : ℕ) → r ≡ rust.Some (k, j) → FirstIn nodes i place k.0 j
   unfolding NextIn
   in_first k j q = rw q at e
 
@@ -136,7 +129,7 @@ module _ (nodes : List Node) (n : NodeId) (k : ℕ) (e : k ≡ kind nodes n) whe
 
 -- ---- a value that merges into a nested set
 module _ (s : List ℕ) (z : SetId) (key : Text) (v : code_id.NodeId) (k : ℕ) (e : k ≡ kind (nodes_of s) v.0) where
-  pub into_unlike : (k ≡ 16 → ⊥) → GoesInto s z key (some v.0) Other
+  pub into_unlike : (k ≡ 16 → ⊥) → GoesInto s z key (some v.0) rust.None
   unfolding into_of nested_for
   into_unlike h = record { says = λ _. go (nested_at (find z key (state_of s)) (state_of s)) }
     where
@@ -144,20 +137,20 @@ module _ (s : List ℕ) (z : SetId) (key : Text) (v : code_id.NodeId) (k : ℕ) 
       go none = refl
       go (some t) = rw (← e, ne_eqb k 16 h)
 
-  module _ (h : k ≡ 16) (m : MaybeSet) (g : Lowerable s → maybe_set_of m ≡ nested_at (find z key (state_of s)) (state_of s)) where
-    pub into_merged : (t : code_set.SetId) → m ≡ maybe_set.Set t → GoesInto s z key (some v.0) (Merged t v)
+  module _ (h : k ≡ 16) (m : rust.Option code_set.SetId) (g : Lowerable s → maybe_set_of m ≡ nested_at (find z key (state_of s)) (state_of s)) where
+    pub into_merged : (t : code_set.SetId) → m ≡ rust.Some t → GoesInto s z key (some v.0) (rust.Some (t, v))
     unfolding into_of nested_for maybe_set_of
     into_merged t q = record { says = λ c. rw (← g c, q, ← e, eq-eqb k 16 h) }
 
-    pub into_new : m ≡ maybe_set.Absent → GoesInto s z key (some v.0) Other
+    pub into_new : m ≡ rust.None → GoesInto s z key (some v.0) rust.None
     unfolding into_of nested_for maybe_set_of
     into_new q = record { says = λ c. rw (← g c, q) }
 
-module _ (s : List ℕ) (z : SetId) (key : Text) (place : MaybeNode) where
-  pub into_node : (v : code_id.NodeId) → place ≡ maybe_node.Node v → {r : IntoSet} → GoesInto s z key (some v.0) r → GoesInto s z key (node_of place) r
+module _ (s : List ℕ) (z : SetId) (key : Text) (place : rust.Option code_id.NodeId) where
+  pub into_node : (v : code_id.NodeId) → place ≡ rust.Some v → {r : rust.Option (code_set.SetId × code_id.NodeId)} → GoesInto s z key (some v.0) r → GoesInto s z key (node_of place) r
   unfolding node_of
   into_node v q g = rw q g
 
-  pub into_none : place ≡ maybe_node.Absent → GoesInto s z key (node_of place) Other
+  pub into_none : place ≡ rust.None → GoesInto s z key (node_of place) rust.None
   unfolding node_of into_of nested_for
   into_none q = rw q (record { says = λ _. refl })

@@ -13,13 +13,12 @@ use Rattle.layout.specs.Layout.{kid_limit}
 use Rattle.layout.specs.Nodes.{nodes_of}
 use Rattle.layout.specs.States.{state_of}
 use Rattle.keys.specs.Items.{items_from}
-use Rattle.keys.specs.declared.items.NextItem.{NextItem}
-use Rattle.keys.specs.declared.items.NextItem.TheVariants.{End, Item}
 use Rattle.merge.specs.Lowers.{Lowerable}
 use Rattle.lower.specs.declared.reads.Children.{Children}
 use Rattle.lower.specs.declared.reads.Param.{Param}
-use Rattle.lower.specs.declared.reads.IntoSet.{IntoSet}
-use Rattle.lower.specs.declared.reads.IntoSet.TheVariants.{Merged, Other}
+use Rattle.module.specs.declared.ids.NodeId as rust_node_id
+use Rattle.open_sets.specs.declared.entry.SetId as rust_set_id
+use Rattle.std.specs.Prelude as rust
 
 -- ---- a node: its counted places and its pointer
 pub record HasChildren (nodes : List Node) (n : NodeId) (r : Children) : Type 0 where
@@ -65,9 +64,9 @@ pub record FirstIn (nodes : List Node) (i : ℕ) (place : Option NodeId) (k : No
   pub onward : i < j
   pub inside : j ≤ kid_limit
 
-unfoldable pub NextIn : List Node → ℕ → Option NodeId → NextItem → Type 0
-NextIn nodes i place End = attrs_from nodes i place ≡ []
-NextIn nodes i place (Item k j) = FirstIn nodes i place k.0 j
+unfoldable pub NextIn : List Node → ℕ → Option NodeId → rust.Option (rust_node_id.NodeId × ℕ) → Type 0
+NextIn nodes i place rust.None = attrs_from nodes i place ≡ []
+NextIn nodes i place (rust.Some (k, j)) = FirstIn nodes i place k.0 j
 
 -- ---- where the entries begin
 pub record FirstEntry (nodes : List Node) (n : NodeId) (r : ℕ) : Type 0 where
@@ -80,9 +79,9 @@ nested_for nodes t none = none
 nested_for nodes none (some v) = none
 nested_for nodes (some t) (some v) = if eqb (kind nodes v) 16 then some (t, v) else none
 
-unfoldable pub into_of : IntoSet → Option (SetId × NodeId)
-into_of (Merged t v) = some (t.0, v.0)
-into_of Other = none
+unfoldable pub into_of : rust.Option (rust_set_id.SetId × rust_node_id.NodeId) → Option (SetId × NodeId)
+into_of (rust.Some (t, v)) = some (t.0, v.0)
+into_of rust.None = none
 
-pub record GoesInto (store : List ℕ) (s : SetId) (key : Text) (value : Option NodeId) (r : IntoSet) : Type 0 where
+pub record GoesInto (store : List ℕ) (s : SetId) (key : Text) (value : Option NodeId) (r : rust.Option (rust_set_id.SetId × rust_node_id.NodeId)) : Type 0 where
   pub says : Lowerable store → into_of r ≡ nested_for (nodes_of store) (nested_at (find s key (state_of store)) (state_of store)) value

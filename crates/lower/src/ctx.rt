@@ -27,19 +27,14 @@ ghost use Rattle.lower.specs.Reads.{attrs_from};
 use crate::leaves::{
     alloc_lone, attr_name, ident, literal, lower_name, missing_node, pair_form, uri,
 };
-use crate::reads::{IntoSet, children_of, first_entry, into_set, next_in, param_of};
+use crate::reads::{children_of, first_entry, into_set, next_in, param_of};
 use intake::{kid, node_flag, node_kind, node_pointer, node_text};
-use keys::{
-    AttrKind, NextItem, attr_kind, get_str_literal, has_interpolation, name_kind_of_set, next_item,
-};
+use keys::{AttrKind, attr_kind, get_str_literal, has_interpolation, name_kind_of_set, next_item};
 use merge::{
     add_dynamic, add_source, finish_nested, finish_set, get_or_create_nested_static, inherit_value,
     merge_static_value,
 };
-use module::{
-    BindingValue, Expr, ExprId, Item, Literal, MaybeExpr, MaybeNode, MaybeText, NameKind, NodeId,
-    Pointer, TextId,
-};
+use module::{BindingValue, Expr, ExprId, Item, Literal, NameKind, NodeId, Pointer, TextId};
 use open_sets::{SetId, cut, entry_count, open_set, set_count};
 use store::{alloc_expr, alloc_missing, push_item, waiting_count};
 
@@ -86,25 +81,25 @@ pub fn expr(store: &mut [u8], depth: u32, n: NodeId) -> ExprId
 
 // lower_expr_opt
 #[cycle(exprs)]
-fn opt(store: &mut [u8], depth: u32, place: MaybeNode) -> ExprId
+fn opt(store: &mut [u8], depth: u32, place: Option<NodeId>) -> ExprId
     requires { Long store.old }
     ensures { Lowering 0 (heft (node_of place)) one_expr (λ nodes. lower_opt nodes (lower_at depth nodes) (merge_at depth nodes) (node_of place)) store.old result.0 store.new }
 {
     match place {
-        MaybeNode::Node(n) => expr(store, depth, n),
-        MaybeNode::Absent => alloc_missing(store),
+        Some(n) => expr(store, depth, n),
+        None => alloc_missing(store),
     }
 }
 
 // An expression that may be left out.
 #[cycle(exprs)]
-fn there(store: &mut [u8], depth: u32, place: MaybeNode) -> MaybeExpr
+fn there(store: &mut [u8], depth: u32, place: Option<NodeId>) -> Option<ExprId>
     requires { Long store.old }
     ensures { Lowering 0 (λ nodes. room.place nodes (node_of place)) nothing (λ nodes. lower_if_there nodes (lower_at depth nodes) (merge_at depth nodes) (node_of place)) store.old (expr_of result) store.new }
 {
     match place {
-        MaybeNode::Node(n) => MaybeExpr::Expr(expr(store, depth, n)),
-        MaybeNode::Absent => MaybeExpr::Absent,
+        Some(n) => Some(expr(store, depth, n)),
+        None => None,
     }
 }
 
@@ -183,8 +178,8 @@ fn str(store: &mut [u8], depth: u32, n: NodeId) -> ExprId
     let p = node_pointer(store, n);
     let base = waiting_count(store);
     match get_str_literal(store, n) {
-        MaybeText::Text(t) => alloc_lone(store, Expr::Literal(Literal::Text(t)), p),
-        MaybeText::Absent => {
+        Some(t) => alloc_lone(store, Expr::Literal(Literal::Text(t)), p),
+        None => {
             parts(store, depth, n);
             alloc_expr(store, Expr::StringInterpolation, base, p)
         }
@@ -216,8 +211,8 @@ fn parts(store: &mut [u8], depth: u32, n: NodeId)
     let mut i: u32 = 0;
     loop {
         match next_item(store, n, i) {
-            NextItem::End => return,
-            NextItem::Item(p, after) => {
+            None => return,
+            Some((p, after)) => {
                 part(store, depth, p);
                 i = after;
             }
@@ -243,15 +238,15 @@ fn part(store: &mut [u8], depth: u32, n: NodeId)
 
 // lower_attrpath_opt: every attribute waits as an item.
 #[cycle(exprs)]
-fn attrs(store: &mut [u8], depth: u32, place: MaybeNode)
+fn attrs(store: &mut [u8], depth: u32, place: Option<NodeId>)
     requires { Long store.old }
     ensures { Collecting 0 (λ nodes. room.place nodes (node_of place)) nothing (map child) (λ nodes. lower_attrpath_opt nodes (lower_at depth nodes) (merge_at depth nodes) (node_of place)) store.old store.new }
 {
     let mut i: u32 = 0;
     loop {
         match next_in(store, place, i) {
-            NextItem::End => return,
-            NextItem::Item(a, after) => {
+            None => return,
+            Some((a, after)) => {
                 let e = attr(store, depth, a);
                 push_item(store, Item::Child(e));
                 i = after;
@@ -300,15 +295,15 @@ fn lambda(store: &mut [u8], depth: u32, n: NodeId) -> ExprId
 
 // The fields of a pattern, if there is one: each waits as an item.
 #[cycle(exprs)]
-fn fields(store: &mut [u8], depth: u32, owner: MaybeNode)
+fn fields(store: &mut [u8], depth: u32, owner: Option<NodeId>)
     requires { Long store.old }
     ensures { Collecting 0 (λ nodes. sizes nodes (attrs_from nodes 1 (node_of owner))) nothing (map field_item) (λ nodes. each (lower_field nodes (lower_at depth nodes) (merge_at depth nodes)) (attrs_from nodes 1 (node_of owner))) store.old store.new }
 {
     let mut i: u32 = 1;
     loop {
         match next_in(store, owner, i) {
-            NextItem::End => return,
-            NextItem::Item(f, after) => {
+            None => return,
+            Some((f, after)) => {
                 field(store, depth, f);
                 i = after;
             }
@@ -356,8 +351,8 @@ fn list(store: &mut [u8], depth: u32, n: NodeId) -> ExprId
     let mut i: u32 = 0;
     loop {
         match next_item(store, n, i) {
-            NextItem::End => return alloc_expr(store, Expr::List, base, p),
-            NextItem::Item(k, after) => {
+            None => return alloc_expr(store, Expr::List, base, p),
+            Some((k, after)) => {
                 let e = expr(store, depth, k);
                 push_item(store, Item::Child(e));
                 i = after;
@@ -452,8 +447,8 @@ fn entries(store: &mut [u8], depth: u32, s: SetId, n: NodeId)
     let mut i = first_entry(store, n);
     loop {
         match next_item(store, n, i) {
-            NextItem::End => return,
-            NextItem::Item(e, after) => {
+            None => return,
+            Some((e, after)) => {
                 entry(store, depth, s, e);
                 i = after;
             }
@@ -485,8 +480,8 @@ fn inherit(store: &mut [u8], depth: u32, s: SetId, n: NodeId)
     let mut i: u32 = 1;
     loop {
         match next_item(store, n, i) {
-            NextItem::End => return,
-            NextItem::Item(a, after) => {
+            None => return,
+            Some((a, after)) => {
                 heir(store, depth, s, from_set, a);
                 i = after;
             }
@@ -496,24 +491,24 @@ fn inherit(store: &mut [u8], depth: u32, s: SetId, n: NodeId)
 
 // The source of an inherit, if it has one.
 #[cycle(exprs)]
-fn src(store: &mut [u8], depth: u32, s: SetId, place: MaybeNode) -> MaybeExpr
+fn src(store: &mut [u8], depth: u32, s: SetId, place: Option<NodeId>) -> Option<ExprId>
     requires { Long store.old }
     ensures { Lowering (suc s.0) (λ nodes. room.place nodes (node_of place)) nothing (λ nodes. inherit_source nodes (lower_at depth nodes) (merge_at depth nodes) s.0 (node_of place)) store.old (expr_of result) store.new }
 {
     match place {
-        MaybeNode::Node(f) => {
+        Some(f) => {
             let inner = kid(store, f, 0);
             let e = opt(store, depth, inner);
             add_source(store, s, e);
-            MaybeExpr::Expr(e)
+            Some(e)
         }
-        MaybeNode::Absent => MaybeExpr::Absent,
+        None => None,
     }
 }
 
 // One inherited attribute. "A dynamic inherited one: a Missing key and its value."
 #[cycle(exprs)]
-fn heir(store: &mut [u8], depth: u32, s: SetId, from_set: MaybeExpr, n: NodeId)
+fn heir(store: &mut [u8], depth: u32, s: SetId, from_set: Option<ExprId>, n: NodeId)
     requires { Long store.old }
     ensures { Lowering (suc s.0) (λ nodes. sized nodes n.0) nothing (λ nodes. inherit_attr nodes (lower_at depth nodes) (merge_at depth nodes) s.0 (expr_of from_set) n.0) store.old tt store.new }
 {
@@ -523,7 +518,7 @@ fn heir(store: &mut [u8], depth: u32, s: SetId, from_set: MaybeExpr, n: NodeId)
             let v = inherit_value(store, from_set, key, p);
             merge_static_value(store, s, key, p, v)
         }
-        AttrKind::Dynamic(e) => push(store, depth, s, MaybeNode::Absent, e),
+        AttrKind::Dynamic(e) => push(store, depth, s, None, e),
     }
 }
 
@@ -537,8 +532,8 @@ fn put(store: &mut [u8], depth: u32, s: SetId, n: NodeId)
     let first = at.first;
     let second = at.second;
     match next_in(store, first, 0) {
-        NextItem::End => push(store, depth, s, MaybeNode::Absent, second),
-        NextItem::Item(a, after) => nested(store, depth, s, first, a, after, second),
+        None => push(store, depth, s, None, second),
+        Some((a, after)) => nested(store, depth, s, first, a, after, second),
     }
 }
 
@@ -548,17 +543,17 @@ fn nested(
     store: &mut [u8],
     depth: u32,
     s: SetId,
-    way: MaybeNode,
+    way: Option<NodeId>,
     n: NodeId,
     after: u32,
-    value: MaybeNode,
+    value: Option<NodeId>,
 )
     requires { Long store.old }
     ensures { Lowering (suc s.0) (λ nodes. sized nodes n.0 + (sizes nodes (attrs_from nodes after (node_of way)) + room.place nodes (node_of value))) nothing (λ nodes. merge_nested_attr_value nodes (lower_at depth nodes) (merge_at depth nodes) s.0 n.0 (attrs_from nodes after (node_of way)) (node_of value)) store.old tt store.new }
 {
     match next_in(store, way, after) {
-        NextItem::End => last(store, depth, s, n, value),
-        NextItem::Item(a, next) => step(store, depth, s, way, n, a, next, value),
+        None => last(store, depth, s, n, value),
+        Some((a, next)) => step(store, depth, s, way, n, a, next, value),
     }
 }
 
@@ -568,11 +563,11 @@ fn step(
     store: &mut [u8],
     depth: u32,
     s: SetId,
-    way: MaybeNode,
+    way: Option<NodeId>,
     n: NodeId,
     a: NodeId,
     after: u32,
-    value: MaybeNode,
+    value: Option<NodeId>,
 )
     requires { Long store.old }
     ensures { Lowering (suc s.0) (λ nodes. sized nodes n.0 + (sized nodes a.0 + (sizes nodes (attrs_from nodes after (node_of way)) + room.place nodes (node_of value)))) nothing (λ nodes. merge_nested_attr_value nodes (lower_at depth nodes) (merge_at depth nodes) s.0 n.0 (a.0 ∷ attrs_from nodes after (node_of way)) (node_of value)) store.old tt store.new }
@@ -597,10 +592,10 @@ fn nest(
     store: &mut [u8],
     depth: u32,
     p: Pointer,
-    way: MaybeNode,
+    way: Option<NodeId>,
     n: NodeId,
     after: u32,
-    value: MaybeNode,
+    value: Option<NodeId>,
 ) -> ExprId
     requires { Long store.old }
     ensures { Lowering 0 (λ nodes. sized nodes n.0 + (sizes nodes (attrs_from nodes after (node_of way)) + room.place nodes (node_of value))) one_set (λ nodes. nested_expr nodes (lower_at depth nodes) (merge_at depth nodes) (pointer_of p) n.0 (attrs_from nodes after (node_of way)) (node_of value)) store.old result.0 store.new }
@@ -616,7 +611,7 @@ fn nest(
 
 // merge_attr_value: the last attribute of a path and the value.
 #[cycle(exprs)]
-fn last(store: &mut [u8], depth: u32, s: SetId, n: NodeId, value: MaybeNode)
+fn last(store: &mut [u8], depth: u32, s: SetId, n: NodeId, value: Option<NodeId>)
     requires { Long store.old }
     ensures { Lowering (suc s.0) (λ nodes. sized nodes n.0 + room.place nodes (node_of value)) nothing (λ nodes. merge_attr_value nodes (lower_at depth nodes) (merge_at depth nodes) s.0 n.0 (node_of value)) store.old tt store.new }
 {
@@ -628,13 +623,13 @@ fn last(store: &mut [u8], depth: u32, s: SetId, n: NodeId, value: MaybeNode)
 
 // "a value AttrSet, not in Parens, merges into a nested set already there"
 #[cycle(exprs)]
-fn keyed(store: &mut [u8], depth: u32, s: SetId, key: TextId, n: NodeId, value: MaybeNode)
+fn keyed(store: &mut [u8], depth: u32, s: SetId, key: TextId, n: NodeId, value: Option<NodeId>)
     requires { Long store.old }
     ensures { Lowering (suc s.0) (λ nodes. room.place nodes (node_of value)) (price 2 1 1 2 0 1) (λ nodes. merge_keyed nodes (lower_at depth nodes) (merge_at depth nodes) s.0 (text_in store.old key.0) n.0 (node_of value)) store.old tt store.new }
 {
     match into_set(store, s, key, value) {
-        IntoSet::Merged(t, v) => join(store, depth, t, v),
-        IntoSet::Other => {
+        Some((t, v)) => join(store, depth, t, v),
+        None => {
             let p = node_pointer(store, n);
             let e = opt(store, depth, value);
             merge_static_value(store, s, key, p, BindingValue::Expr(e))
@@ -644,7 +639,7 @@ fn keyed(store: &mut [u8], depth: u32, s: SetId, key: TextId, n: NodeId, value: 
 
 // push_dynamic: "At the end: key, then value."
 #[cycle(exprs)]
-fn push(store: &mut [u8], depth: u32, s: SetId, key: MaybeNode, value: MaybeNode)
+fn push(store: &mut [u8], depth: u32, s: SetId, key: Option<NodeId>, value: Option<NodeId>)
     requires { Long store.old }
     ensures { Lowering (suc s.0) (λ nodes. heft (node_of key) nodes + heft (node_of value) nodes) (price 3 1 0 0 0 1) (λ nodes. push_dynamic nodes (lower_at depth nodes) (merge_at depth nodes) s.0 (node_of key) (node_of value)) store.old tt store.new }
 {

@@ -17,8 +17,8 @@ ghost use Rattle.lower.specs.Sizes as sizes;
 ghost use Rattle.lower.specs.Parts.{lower_at, merge_at, IsForm};
 
 use intake::{node_pointer, node_text};
-use keys::{MaybeLiteral, literal_of, name_of_ident};
-use module::{Expr, ExprId, Literal, MaybeName, MaybeNode, MaybeText, NameKind, NodeId, Pointer};
+use keys::{literal_of, name_of_ident};
+use module::{Expr, ExprId, Literal, NameId, NameKind, NodeId, Pointer, TextId};
 use store::{alloc_expr, alloc_missing, alloc_name, waiting_count};
 
 // alloc_expr, for an expression without items.
@@ -44,17 +44,17 @@ pub fn pair_form(kind: u32, a: ExprId, b: ExprId) -> Expr
 }
 
 // lower_name: an Ident without a name is named by the empty text.
-pub fn lower_name(store: &mut [u8], kind: NameKind, place: MaybeNode) -> MaybeName
+pub fn lower_name(store: &mut [u8], kind: NameKind, place: Option<NodeId>) -> Option<NameId>
     requires { Long store.old }
     ensures { Lowering 0 (λ nodes. sizes.place nodes (node_of place)) nothing (λ nodes. lower_name nodes (lower_at 0 nodes) (merge_at 0 nodes) (kind_of kind) (node_of place)) store.old (name_of result) store.new }
 {
     match place {
-        MaybeNode::Node(n) => {
+        Some(n) => {
             let text = node_text(store, n);
             let p = node_pointer(store, n);
-            MaybeName::Name(alloc_name(store, text, kind, p))
+            Some(alloc_name(store, text, kind, p))
         }
-        MaybeNode::Absent => MaybeName::Absent,
+        None => None,
     }
 }
 
@@ -65,8 +65,8 @@ pub fn literal(store: &mut [u8], n: NodeId, kind: u32) -> ExprId
 {
     let p = node_pointer(store, n);
     match literal_of(store, n, kind) {
-        MaybeLiteral::Literal(l) => alloc_lone(store, Expr::Literal(l), p),
-        MaybeLiteral::Absent => alloc_missing(store),
+        Some(l) => alloc_lone(store, Expr::Literal(l), p),
+        None => alloc_missing(store),
     }
 }
 
@@ -94,8 +94,8 @@ pub fn ident(store: &mut [u8], n: NodeId) -> ExprId
 {
     let p = node_pointer(store, n);
     match name_of_ident(store, n) {
-        MaybeText::Text(t) => alloc_lone(store, Expr::Reference(t), p),
-        MaybeText::Absent => alloc_lone(store, Expr::Missing, p),
+        Some(t) => alloc_lone(store, Expr::Reference(t), p),
+        None => alloc_lone(store, Expr::Missing, p),
     }
 }
 
@@ -106,7 +106,7 @@ pub fn attr_name(store: &mut [u8], n: NodeId) -> ExprId
 {
     let p = node_pointer(store, n);
     match name_of_ident(store, n) {
-        MaybeText::Text(t) => alloc_lone(store, Expr::Literal(Literal::Text(t)), p),
-        MaybeText::Absent => alloc_missing(store),
+        Some(t) => alloc_lone(store, Expr::Literal(Literal::Text(t)), p),
+        None => alloc_missing(store),
     }
 }

@@ -9,17 +9,17 @@ ghost use Rattle.module.specs.Ids.{node_of};
 ghost use Rattle.lower.specs.Reads.{HasChildren, HasParam, pattern_of, NextIn, FirstEntry, GoesInto};
 
 use intake::{kid, node_flag, node_kind, node_pointer};
-use keys::{NextItem, next_item};
+use keys::next_item;
 use merge::nested_at;
-use module::{MaybeNode, NodeId, Pattern, Pointer, TextId};
-use open_sets::{MaybeSet, SetId};
+use module::{NodeId, Pattern, Pointer, TextId};
+use open_sets::SetId;
 
 // The counted places of a node, of which none has more than three, and its pointer.
 #[derive(Clone, Copy)]
 pub struct Children {
-    pub first: MaybeNode,
-    pub second: MaybeNode,
-    pub third: MaybeNode,
+    pub first: Option<NodeId>,
+    pub second: Option<NodeId>,
+    pub third: Option<NodeId>,
     pub pointer: Pointer,
 }
 
@@ -39,19 +39,19 @@ pub fn children_of(store: &[u8], n: NodeId) -> Children
 // expression says of that.
 #[derive(Clone, Copy)]
 pub struct Param {
-    pub ident: MaybeNode,
-    pub owner: MaybeNode,
+    pub ident: Option<NodeId>,
+    pub owner: Option<NodeId>,
     pub pattern: Pattern,
 }
 
 // A kid of a place that may be absent itself.
-fn kid_of(store: &[u8], place: MaybeNode) -> MaybeNode
+fn kid_of(store: &[u8], place: Option<NodeId>) -> Option<NodeId>
     requires { Long store.now }
     ensures { node_of result ≡ kid_of (nodes_of store.now) 0 (node_of place) }
 {
     match place {
-        MaybeNode::Node(n) => kid(store, n, 0),
-        MaybeNode::Absent => MaybeNode::Absent,
+        Some(n) => kid(store, n, 0),
+        None => None,
     }
 }
 
@@ -73,39 +73,39 @@ fn param_node(store: &[u8], n: NodeId) -> Param
     if node_kind(store, n) == 28 {
         return Param {
             ident: first,
-            owner: MaybeNode::Absent,
+            owner: None,
             pattern: Pattern::Absent,
         };
     }
     Param {
         ident: kid_of(store, first),
-        owner: MaybeNode::Node(n),
+        owner: Some(n),
         pattern: pattern_kind(store, n),
     }
 }
 
-pub fn param_of(store: &[u8], place: MaybeNode) -> Param
+pub fn param_of(store: &[u8], place: Option<NodeId>) -> Param
     requires { Long store.now }
     ensures { HasParam (nodes_of store.now) (node_of place) result }
 {
     match place {
-        MaybeNode::Node(n) => param_node(store, n),
-        MaybeNode::Absent => Param {
-            ident: MaybeNode::Absent,
-            owner: MaybeNode::Absent,
+        Some(n) => param_node(store, n),
+        None => Param {
+            ident: None,
+            owner: None,
             pattern: Pattern::Absent,
         },
     }
 }
 
 // The next item of a place that may be absent.
-pub fn next_in(store: &[u8], place: MaybeNode, i: u32) -> NextItem
+pub fn next_in(store: &[u8], place: Option<NodeId>, i: u32) -> Option<(NodeId, u32)>
     requires { Long store.now }
     ensures { NextIn (nodes_of store.now) i (node_of place) result }
 {
     match place {
-        MaybeNode::Node(n) => next_item(store, n, i),
-        MaybeNode::Absent => NextItem::End,
+        Some(n) => next_item(store, n, i),
+        None => None,
     }
 }
 
@@ -120,32 +120,30 @@ pub fn first_entry(store: &[u8], n: NodeId) -> u32
     0
 }
 
-// Whether a value is an AttrSet that merges into a nested set already there.
-#[derive(Clone, Copy)]
-pub enum IntoSet {
-    Merged(SetId, NodeId),
-    Other,
-}
-
-fn into_nested(store: &[u8], s: SetId, key: TextId, v: NodeId) -> IntoSet
+fn into_nested(store: &[u8], s: SetId, key: TextId, v: NodeId) -> Option<(SetId, NodeId)>
     requires { Long store.now }
     ensures { GoesInto store.now s.0 (text_in store.now key.0) (some v.0) result }
 {
     if node_kind(store, v) != 16 {
-        return IntoSet::Other;
+        return None;
     }
     match nested_at(store, s, key) {
-        MaybeSet::Set(t) => IntoSet::Merged(t, v),
-        MaybeSet::Absent => IntoSet::Other,
+        Some(t) => Some((t, v)),
+        None => None,
     }
 }
 
-pub fn into_set(store: &[u8], s: SetId, key: TextId, value: MaybeNode) -> IntoSet
+pub fn into_set(
+    store: &[u8],
+    s: SetId,
+    key: TextId,
+    value: Option<NodeId>,
+) -> Option<(SetId, NodeId)>
     requires { Long store.now }
     ensures { GoesInto store.now s.0 (text_in store.now key.0) (node_of value) result }
 {
     match value {
-        MaybeNode::Node(v) => into_nested(store, s, key, v),
-        MaybeNode::Absent => IntoSet::Other,
+        Some(v) => into_nested(store, s, key, v),
+        None => None,
     }
 }

@@ -14,25 +14,28 @@ ghost use Rattle.open_sets.specs.Entries.{maybe_set_of, maybe_value_of, entry_wi
 ghost use Rattle.merge.specs.Finishes.{binding_items, finish_entry, only, value_load, entry_load, Finishing, Listing};
 
 use module::{BindingValue, Expr, ExprId, Item};
-use open_sets::{
-    Entry, MaybeSet, MaybeValue, NextEntry, SetId, entry_of, first_of, set_count, set_pointer,
-};
+use open_sets::{Entry, SetId, entry_of, first_of, set_count, set_pointer};
 use store::{alloc_expr, alloc_missing, push_item, waiting_count};
 
 // docs/RULES.md, "Finishing": "a nested set still wins"
 #[cycle(finishing)]
-fn finish_value(store: &mut [u8], bound: u32, nested: MaybeSet, value: MaybeValue) -> BindingValue
+fn finish_value(
+    store: &mut [u8],
+    bound: u32,
+    nested: Option<SetId>,
+    value: Option<BindingValue>,
+) -> BindingValue
     requires { Long store.old }
     ensures { Finishing (value_load (load (entries_of store.old) bound) (maybe_set_of nested) (maybe_value_of value)) (finish_value (finish_to bound) (maybe_set_of nested) (maybe_value_of value)) store.old (binding_of result) store.new }
 {
     match nested {
-        MaybeSet::Set(t) => {
+        Some(t) => {
             let e = finish_expr(store, bound, t);
             BindingValue::Expr(e)
         }
-        MaybeSet::Absent => match value {
-            MaybeValue::Value(v) => v,
-            MaybeValue::Absent => {
+        None => match value {
+            Some(v) => v,
+            None => {
                 let e = alloc_missing(store);
                 BindingValue::Expr(e)
             }
@@ -69,10 +72,10 @@ pub fn finish(store: &mut [u8], bound: u32, s: SetId)
     let mut j = first_of(store, s);
     loop {
         match entry_of(store, s, j) {
-            NextEntry::End => {
+            None => {
                 return;
             }
-            NextEntry::Entry(e) => {
+            Some(e) => {
                 finish_entry(store, bound, e);
                 j += 1;
             }

@@ -5,7 +5,7 @@ ghost use Rattle.layout.specs.Layout.{Long};
 ghost use Rattle.layout.specs.Texts.{text_in};
 ghost use Rattle.merge.specs.Merges.{Inherits};
 
-use module::{BindingValue, Expr, ExprId, Item, Literal, MaybeExpr, Pointer, TextId};
+use module::{BindingValue, Expr, ExprId, Item, Literal, Pointer, TextId};
 use store::{alloc_expr, push_item, waiting_count};
 
 // From where the entries stand: a reference.
@@ -26,16 +26,16 @@ fn inherited_from(store: &mut [u8], set: ExprId, key: TextId, p: Pointer) -> Bin
     let base = waiting_count(store);
     let l = alloc_expr(store, Expr::Literal(Literal::Text(key)), base, p);
     push_item(store, Item::Child(l));
-    let e = alloc_expr(store, Expr::Select(set, MaybeExpr::Absent), base, p);
+    let e = alloc_expr(store, Expr::Select(set, None), base, p);
     BindingValue::InheritFrom(e)
 }
 
-pub fn inherit_value(store: &mut [u8], set: MaybeExpr, key: TextId, p: Pointer) -> BindingValue
+pub fn inherit_value(store: &mut [u8], set: Option<ExprId>, key: TextId, p: Pointer) -> BindingValue
     requires { Long store.old }
     ensures { Inherits (expr_of set) (text_in store.old key.0) (pointer_of p) store.old (binding_of result) store.new }
 {
     match set {
-        MaybeExpr::Absent => inherited(store, key, p),
-        MaybeExpr::Expr(e) => inherited_from(store, e, key, p),
+        None => inherited(store, key, p),
+        Some(e) => inherited_from(store, e, key, p),
     }
 }

@@ -14,8 +14,7 @@ ghost use Rattle.merge.specs.Merges.{Merges, key_price, value_price, nested_pric
 
 use module::{BindingValue, ExprId, NameId, NameKind, Pointer, TextId};
 use open_sets::{
-    Entry, MaybeEntry, MaybeSet, MaybeValue, SetId, add_entry, entry_at, find, open_set,
-    set_name_kind, set_nested, set_value,
+    Entry, SetId, add_entry, entry_at, find, open_set, set_name_kind, set_nested, set_value,
 };
 use rows::name_pointer;
 use store::{add_duplicate, alloc_name};
@@ -47,24 +46,24 @@ fn name_in(e: Entry) -> NameId
     }
 }
 
-fn nested_in(e: Entry) -> MaybeSet
+fn nested_in(e: Entry) -> Option<SetId>
     ensures { (st : List ℕ) → maybe_set_of result ≡ definition.nested_in (entry_with st e) }
 {
     match e {
         Entry::Static(s, key, x, nested, value) => nested,
-        Entry::Source(s, set) => MaybeSet::Absent,
-        Entry::Dynamic(s, key, value) => MaybeSet::Absent,
+        Entry::Source(s, set) => None,
+        Entry::Dynamic(s, key, value) => None,
     }
 }
 
 // The nested set that a key has.
-pub fn nested_at(store: &[u8], s: SetId, key: TextId) -> MaybeSet
+pub fn nested_at(store: &[u8], s: SetId, key: TextId) -> Option<SetId>
     requires { Long store.now }
     ensures { Lowerable store.now → maybe_set_of result ≡ definition.nested_at (definition.find s.0 (text_in store.now key.0) (state_of store.now)) (state_of store.now) }
 {
     match find(store, s, key) {
-        MaybeEntry::Entry(i) => nested_in(entry_at(store, i)),
-        MaybeEntry::Absent => MaybeSet::Absent,
+        Some(i) => nested_in(entry_at(store, i)),
+        None => None,
     }
 }
 
@@ -83,10 +82,7 @@ fn first_value(store: &mut [u8], s: SetId, key: TextId, p: Pointer, value: Bindi
     ensures { Merges key_price (definition.merge_value_at s.0 (text_in store.old key.0) (pointer_of p) (binding_of value) none) store.old tt store.new }
 {
     let x = name_key(store, s, key, p);
-    add_entry(
-        store,
-        Entry::Static(s, key, x, MaybeSet::Absent, MaybeValue::Value(value)),
-    );
+    add_entry(store, Entry::Static(s, key, x, None, Some(value)));
 }
 
 // Another value at a key whose entry is i: a diagnostic, first the name's pointer, and it replaces the
@@ -106,8 +102,8 @@ pub fn merge_static_value(store: &mut [u8], s: SetId, key: TextId, p: Pointer, v
     ensures { Lowering (suc s.0) (λ _. 0) value_price (λ _. definition.merge_static_value s.0 (text_in store.old key.0) (pointer_of p) (binding_of value)) store.old tt store.new }
 {
     match find(store, s, key) {
-        MaybeEntry::Entry(i) => second_value(store, i, key, p, value),
-        MaybeEntry::Absent => first_value(store, s, key, p, value),
+        Some(i) => second_value(store, i, key, p, value),
+        None => first_value(store, s, key, p, value),
     }
 }
 
@@ -118,10 +114,7 @@ fn first_nested(store: &mut [u8], s: SetId, key: TextId, p: Pointer) -> SetId
 {
     let x = name_key(store, s, key, p);
     let t = open_set(store, NameKind::PlainAttrset, p);
-    add_entry(
-        store,
-        Entry::Static(s, key, x, MaybeSet::Set(t), MaybeValue::Absent),
-    );
+    add_entry(store, Entry::Static(s, key, x, Some(t), None));
     t
 }
 
@@ -141,8 +134,8 @@ fn nested_or(store: &mut [u8], i: u32, p: Pointer) -> SetId
     ensures { (s : ℕ) (key : List ℕ) → Merges one_set (definition.nested_static_at s key (pointer_of p) (some i)) store.old result.0 store.new }
 {
     match nested_in(entry_at(store, i)) {
-        MaybeSet::Set(t) => t,
-        MaybeSet::Absent => nest_in(store, i, p),
+        Some(t) => t,
+        None => nest_in(store, i, p),
     }
 }
 
@@ -151,7 +144,7 @@ pub fn get_or_create_nested_static(store: &mut [u8], s: SetId, key: TextId, p: P
     ensures { Lowering (suc s.0) (λ _. 0) nested_price (λ _. definition.get_or_create_nested_static s.0 (text_in store.old key.0) (pointer_of p)) store.old result.0 store.new }
 {
     match find(store, s, key) {
-        MaybeEntry::Entry(i) => nested_or(store, i, p),
-        MaybeEntry::Absent => first_nested(store, s, key, p),
+        Some(i) => nested_or(store, i, p),
+        None => first_nested(store, s, key, p),
     }
 }

@@ -1,5 +1,5 @@
 // An expression, but for its lists: what lib.rs keeps in vectors inside an Expr lies beside it as items.
-use crate::ids::{BindingValue, ExprId, MaybeExpr, MaybeName, NameId, TextId};
+use crate::ids::{BindingValue, ExprId, NameId, TextId};
 use crate::literal::Literal;
 
 // Whether a Lambda has a pattern, and whether that ends in an ellipsis.
@@ -19,7 +19,7 @@ pub enum Expr {
     IfThenElse(ExprId, ExprId, ExprId),
     Literal(Literal),
     // Parameter, pattern, body; items: fields.
-    Lambda(MaybeName, Pattern, ExprId),
+    Lambda(Option<NameId>, Pattern, ExprId),
     // Body; items: bindings.
     LetIn(ExprId),
     // Items: children.
@@ -32,7 +32,7 @@ pub enum Expr {
     UnaryOp(u32, ExprId),
     Reference(TextId),
     // Set, default; items: the path's attributes.
-    Select(ExprId, MaybeExpr),
+    Select(ExprId, Option<ExprId>),
     // Set; items: the path's attributes.
     HasAttr(ExprId),
     // Namespace, body.
@@ -52,7 +52,7 @@ pub enum Item {
     // A literal part.
     Text(TextId),
     // A field of a pattern: its name and its default.
-    Field(MaybeName, MaybeExpr),
+    Field(Option<NameId>, Option<ExprId>),
     Static(NameId, BindingValue),
     // Key, value.
     Dynamic(ExprId, ExprId),

@@ -16,37 +16,6 @@ pub struct ScopeId(pub u32);
 #[derive(Clone, Copy)]
 pub struct TextId(pub u32);
 
-// What may be absent.
-#[derive(Clone, Copy)]
-pub enum MaybeNode {
-    Node(NodeId),
-    Absent,
-}
-
-#[derive(Clone, Copy)]
-pub enum MaybeExpr {
-    Expr(ExprId),
-    Absent,
-}
-
-#[derive(Clone, Copy)]
-pub enum MaybeName {
-    Name(NameId),
-    Absent,
-}
-
-#[derive(Clone, Copy)]
-pub enum MaybeScope {
-    Scope(ScopeId),
-    Absent,
-}
-
-#[derive(Clone, Copy)]
-pub enum MaybeText {
-    Text(TextId),
-    Absent,
-}
-
 // The value of a static binding.
 #[derive(Clone, Copy)]
 pub enum BindingValue {

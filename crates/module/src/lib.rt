@@ -14,10 +14,7 @@ mod pointer;
 
 pub use counter::Counter;
 pub use expr::{Expr, Item, Pattern};
-pub use ids::{
-    BindingValue, ExprId, MaybeExpr, MaybeName, MaybeNode, MaybeScope, MaybeText, NameId, NodeId,
-    ScopeId, TextId,
-};
+pub use ids::{BindingValue, ExprId, NameId, NodeId, ScopeId, TextId};
 pub use kinds::{NameKind, name_kind};
 pub use literal::{Literal, bits_of, float_of, integer_of, value_of};
 pub use pointer::Pointer;

@@ -37,11 +37,10 @@ use Rattle.nameres.proofs.AnswerLoops.{get_d_set_to_past, set_to_all}
 use Rattle.nameres.proofs.StepLaws.{module_kept, scoped_still, answers_none, answers_as, named_still, answers_many, exprs_many}
 use Rattle.nameres.proofs.ResolveLaws.{both_wrote, both_still, both_placed, both_fits, both_does}
 use Rattle.moving.specs.Moving.{differs, About, Refers, MovesTo, Fits, one_moved, MovesOne, first_moved, all_moved, MovesAnswers, moved, Moves}
-use Rattle.moving.specs.declared.moved.Moved.{Moved}
-use Rattle.moving.specs.declared.moved.Moved.TheVariants.{To, Stays}
 use Rattle.moving.specs.declared.named.Named.{Named}
 use Rattle.moving.proofs.OneLaws.{refers_in, moves_put, one_counted, none_counted}
 use Rattle.moving.proofs.ListLaws.{Writing, writing_none, writing_fits, writing_on, writing_done, single_moved}
+use Rattle.std.specs.Prelude as rust
 
 -- as many expressions as are counted
 pub counted : (s : List ℕ) (n : ℕ) → n ≡ length (exprs_of s) → n ≡ length (kept_in s).lowered.exprs
@@ -172,20 +171,20 @@ itself_only k n t e h = go (eqb e n) refl
     go true q = eqb-true e n q
     go false q = differ (sym h ∙ rw (q, answer_same (kept_answer k e)))
 
-module _ (s : List ℕ) (e : ExprId) (t : Text) (refers : Refers e s) (r : Moved) (to : MovesTo (at_reference e) t e s r) where
+module _ (s : List ℕ) (e : ExprId) (t : Text) (refers : Refers e s) (r : rust.Option Answer) (to : MovesTo (at_reference e) t e s r) where
   its_own : moved_by (kept_in s) (at_reference e) t ≡ cons_if (differs (kept_in s) (at_reference e) t e) e []
   its_own = single_moved (kept_in s) (at_reference e) t e (itself_only (kept_in s) e t) (rw (module_kept s) (refers_in s e refers))
 
-  pub reference_counted : (a : Answer) → r ≡ To a → 1 ≡ length (moved_by (kept_in s) (at_reference e) t)
+  pub reference_counted : (a : Answer) → r ≡ rust.Some a → 1 ≡ length (moved_by (kept_in s) (at_reference e) t)
   reference_counted a q = one_counted (at_reference e) t e s r to a q ∙ rw its_own
 
-  pub none_of_it : r ≡ Stays → 0 ≡ length (moved_by (kept_in s) (at_reference e) t)
+  pub none_of_it : r ≡ rust.None → 0 ≡ length (moved_by (kept_in s) (at_reference e) t)
   none_of_it q = none_counted (at_reference e) t e s r to q ∙ rw its_own
 
-  pub reference_stays : (b : List ℕ) → r ≡ Stays → Moves (at_reference e) t s b s b
+  pub reference_stays : (b : List ℕ) → r ≡ rust.None → Moves (at_reference e) t s b s b
   reference_stays b q = moves_none (at_reference e) t s b (sym (none_of_it q))
 
-  module _ (a : Answer) (q : r ≡ To a) (named : Nameable (scopes_in s)) where
+  module _ (a : Answer) (q : r ≡ rust.Some a) (named : Nameable (scopes_in s)) where
     others : (i : ExprId) → (i ≡ e → ⊥) → resolved_again (kept_in s) (at_reference e) t i ≡ get_or (kept_in s).answers i none
     unfolding resolved_again may_move kept_answer
     others i z = rw (ne_eqb i e z)

@@ -15,22 +15,22 @@ use Rattle.spec.specs.Moved.{bears, within, may_move}
 use Rattle.layout.specs.Texts.{text_in, maybe_text}
 use Rattle.layout.specs.States.{module_in}
 use Rattle.layout.specs.Keeps.{scopes_in}
-use Rattle.module.specs.declared.ids.MaybeText.{MaybeText}
-use Rattle.module.specs.declared.ids.MaybeText.TheVariants as maybe_text_lem
-use Rattle.module.specs.declared.ids.MaybeScope.{MaybeScope}
 use Rattle.module.specs.Ids.{scope_of}
 use Rattle.moving.specs.Moving.{About}
 use Rattle.moving.specs.declared.named.Named.{Named}
+use Rattle.module.specs.declared.ids.TextId as rust_text_id
+use Rattle.module.specs.declared.ids.ScopeId as rust_scope_id
+use Rattle.std.specs.Prelude as rust
 
 abbrev either : Text → Text → Option Text → Bool
 either old new o = bears old o || bears new o
 
-module _ (s : List ℕ) (e : ExprId) (old new : Text) (r : MaybeText) (h : maybe_text s r ≡ reference_text (expr_at (module_in s) e)) where
-  pub bears_none : r ≡ maybe_text_lem.Absent → false ≡ either old new (reference_text (expr_at (module_in s) e))
+module _ (s : List ℕ) (e : ExprId) (old new : Text) (r : rust.Option rust_text_id.TextId) (h : maybe_text s r ≡ reference_text (expr_at (module_in s) e)) where
+  pub bears_none : r ≡ rust.None → false ≡ either old new (reference_text (expr_at (module_in s) e))
   unfolding bears maybe_text
   bears_none q = ap (either old new) (sym (ap (maybe_text s) q) ∙ h)
 
-  module _ (k : ℕ) (q : r ≡ maybe_text_lem.Text (record { 0 = k })) (a : Bool) (first : a ≡ equalb old (text_in s k)) where
+  module _ (k : ℕ) (q : r ≡ rust.Some (record { 0 = k })) (a : Bool) (first : a ≡ equalb old (text_in s k)) where
     borne : either old new (some (text_in s k)) ≡ either old new (reference_text (expr_at (module_in s) e))
     unfolding maybe_text
     borne = ap (either old new) (sym (ap (maybe_text s) q) ∙ h)
@@ -54,7 +54,7 @@ module _ (s : List ℕ) (x : Named) (about : About s x) (new : Text) (e : ExprId
   unborne h = rw (← told, not-true b h)
 
   -- it bears one of them, so that its scope decides
-  pub inside : not b ≡ false → (i : MaybeScope) → scope_of i ≡ scope_of_expr (scopes_in s) e → {r : Bool} → r ≡ within (scopes_in s) (scope_of x.scope) (scope_of i)
+  pub inside : not b ≡ false → (i : rust.Option rust_scope_id.ScopeId) → scope_of i ≡ scope_of_expr (scopes_in s) e → {r : Bool} → r ≡ within (scopes_in s) (scope_of x.scope) (scope_of i)
       → r ≡ may_move (module_in s) (scopes_in s) (at_name x.name.0) new e
   unfolding may_move
   inside h i stands q = rw (← told, not-false b h, ← about.scope, ← stands) q

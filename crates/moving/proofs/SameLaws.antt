@@ -16,13 +16,11 @@ use Rattle.spec.specs.Kept.{kept_answer}
 use Rattle.layout.specs.Keeps.{scopes_in, kept_in}
 use Rattle.answer.specs.declared.answer.Answer.{Answer}
 use Rattle.answer.specs.declared.answer.Answer.TheVariants.{Unresolved, Definition, Builtin, Withs}
-use Rattle.answer.specs.declared.answer.MaybeAnswer.{MaybeAnswer}
-use Rattle.answer.specs.declared.answer.MaybeAnswer.TheVariants.{Kept as Is, Absent}
 use Rattle.answer.specs.Answers.{answer_with, maybe_with}
 use Rattle.answer.specs.Told.{number_of, value_of, Tells}
 use Rattle.kept.specs.Answers.{withs_at}
 use Rattle.moving.specs.Moving.{SameHere, OtherThan}
-use Rattle.moving.specs.declared.moved.Moved.TheVariants.{To, Stays}
+use Rattle.std.specs.Prelude as rust
 
 -- answers at one place are the same where their numbers and their values are
 by_numbers : (a b : Answer) (es : List ExprId)
@@ -55,23 +53,23 @@ module _ {a b : Answer} {n m : ℕ} (p : Tells number_of a n) (q : Tells number_
       record { says = λ es. e ∙ sym (by_numbers a b es ∙ rw (← p.says es, ← q.says es, eq-eqb n m h, ← f.says es, ← g.says es)) }
 
 -- ---- held against the one that is kept
-module _ (s : List ℕ) (e : ℕ) (a : Answer) (k : MaybeAnswer) (kept : maybe_with k (withs_at (scopes_in s) e) ≡ kept_answer (kept_in s) e) where
-  module _ (before : Answer) (there : k ≡ Is before) where
+module _ (s : List ℕ) (e : ℕ) (a : Answer) (k : rust.Option Answer) (kept : maybe_with k (withs_at (scopes_in s) e) ≡ kept_answer (kept_in s) e) where
+  module _ (before : Answer) (there : k ≡ rust.Some before) where
     was : kept_answer (kept_in s) e ≡ some (answer_with before (withs_at (scopes_in s) e))
     unfolding maybe_with
-    was = sym kept ∙ ap (λ (o : MaybeAnswer). maybe_with o (withs_at (scopes_in s) e)) there
+    was = sym kept ∙ ap (λ (o : rust.Option Answer). maybe_with o (withs_at (scopes_in s) e)) there
 
-    pub kept_same : {r : Bool} → SameHere before a r → r ≡ true → OtherThan e a s Stays
+    pub kept_same : {r : Bool} → SameHere before a r → r ≡ true → OtherThan e a s rust.None
     kept_same h q = record { is = rw (was, ← h.says (withs_at (scopes_in s) e), q) }
 
-    pub kept_other : {r : Bool} → SameHere before a r → r ≡ false → OtherThan e a s (To a)
+    pub kept_other : {r : Bool} → SameHere before a r → r ≡ false → OtherThan e a s (rust.Some a)
     kept_other h q = record { is = rw (was, ← h.says (withs_at (scopes_in s) e), q) }
 
-  pub kept_none : k ≡ Absent → OtherThan e a s (To a)
+  pub kept_none : k ≡ rust.None → OtherThan e a s (rust.Some a)
   unfolding maybe_with same_answer numbers_of equalb
-  kept_none there = record { is = rw (sym kept ∙ ap (λ (o : MaybeAnswer). maybe_with o (withs_at (scopes_in s) e)) there) (go (answer_with a (withs_at (scopes_in s) e))) }
+  kept_none there = record { is = rw (sym kept ∙ ap (λ (o : rust.Option Answer). maybe_with o (withs_at (scopes_in s) e)) there) (go (answer_with a (withs_at (scopes_in s) e))) }
     where
-      go : (b : spec.Answer) → To a ≡ (if same_answer none (some b) then Stays else To a)
+      go : (b : spec.Answer) → rust.Some a ≡ (if same_answer none (some b) then rust.None else rust.Some a)
       go spec.unresolved = refl
       go (spec.definition x) = refl
       go (spec.builtin i) = refl

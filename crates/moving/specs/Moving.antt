@@ -22,9 +22,8 @@ use Rattle.answer.specs.declared.answer.Answer.{Answer}
 use Rattle.answer.specs.Answers.{answer_with}
 use Rattle.kept.specs.Answers.{AnswerFits, Unmoved, withs_at}
 use Rattle.nameres.specs.Resolution.{Nameable, Scoped, set_to, Answers}
-use Rattle.moving.specs.declared.moved.Moved.{Moved}
-use Rattle.moving.specs.declared.moved.Moved.TheVariants.{To, Stays}
 use Rattle.moving.specs.declared.named.Named.{Named}
+use Rattle.std.specs.Prelude as rust
 
 -- whether the text, set at the place, moves the answer of e: the test of `moved_by`
 unfoldable pub differs : Kept → Place → Text → ExprId → Bool
@@ -36,8 +35,8 @@ pub record SameHere (a b : Answer) (r : Bool) : Type 0 where
   pub says : (es : List ExprId) → r ≡ same_answer (some (answer_with a es)) (some (answer_with b es))
 
 -- an answer, unless it is the one that is kept
-pub record OtherThan (e : ExprId) (a : Answer) (s : List ℕ) (r : Moved) : Type 0 where
-  pub is : r ≡ (if same_answer (kept_answer (kept_in s) e) (some (answer_with a (withs_at (scopes_in s) e))) then Stays else To a)
+pub record OtherThan (e : ExprId) (a : Answer) (s : List ℕ) (r : rust.Option Answer) : Type 0 where
+  pub is : r ≡ (if same_answer (kept_answer (kept_in s) e) (some (answer_with a (withs_at (scopes_in s) e))) then rust.None else rust.Some a)
 
 -- ---- what is known of a place
 -- the text and the scope of a name
@@ -59,9 +58,9 @@ pub record Means (e : ExprId) (a : Answer) (s : List ℕ) : Type 0 where
   pub refers : Refers e s
 
 -- what becomes of it
-pub record MovesTo (p : Place) (bytes : Text) (e : ExprId) (s : List ℕ) (r : Moved) : Type 0 where
-  pub stays : r ≡ Stays → differs (kept_in s) p bytes e ≡ false
-  pub moves : (a : Answer) → r ≡ To a
+pub record MovesTo (p : Place) (bytes : Text) (e : ExprId) (s : List ℕ) (r : rust.Option Answer) : Type 0 where
+  pub stays : r ≡ rust.None → differs (kept_in s) p bytes e ≡ false
+  pub moves : (a : Answer) → r ≡ rust.Some a
       → (differs (kept_in s) p bytes e ≡ true) × ((resolved_again (kept_in s) p bytes e ≡ some (answer_with a (withs_at (scopes_in s) e))) × Means e a s)
 
 -- a buffer has room for one more, if there is one, after n numbers

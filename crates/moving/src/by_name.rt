@@ -8,26 +8,27 @@ ghost use Rattle.layout.specs.Keeps.{scopes_in, kept_in};
 ghost use Rattle.nameres.specs.Resolution.{Nameable};
 ghost use Rattle.moving.specs.Moving.{differs, About, MovesTo, Fits, MovesOne, MovesAnswers, Movable, Moves};
 
-use crate::moved::{Moved, unless_kept};
+use crate::moved::unless_kept;
 use crate::named::{Named, find_name, may_move};
+use answer::Answer;
 use kept::set_answer;
 use layout::wide;
 use listing::list_references;
-use module::{ExprId, MaybeText, NameId};
+use module::{ExprId, NameId, TextId};
 use resolve::resolve_renamed;
 use rows::{expr_count, reference_text};
 use words::put32;
 
 // What becomes of one answer, as if the name had the new text.
-fn moved_by_name(store: &[u8], e: ExprId, x: Named, new: &[u8]) -> Moved
+fn moved_by_name(store: &[u8], e: ExprId, x: Named, new: &[u8]) -> Option<Answer>
     requires { Long store.now × About store.now x }
     ensures { MovesTo (at_name x.name.0) new.now e.0 store.now result }
 {
     if !may_move(store, e, x, new) {
-        return Moved::Stays;
+        return None;
     }
-    let MaybeText::Text(t) = reference_text(store, e) else {
-        return Moved::Stays;
+    let Some(t) = reference_text(store, e) else {
+        return None;
     };
     let a = resolve_renamed(store, e, t, x.name, new);
     unless_kept(store, e, a)
@@ -38,12 +39,12 @@ fn count_one(store: &[u8], e: ExprId, x: Named, new: &[u8]) -> u32
     requires { Long store.now × About store.now x }
     ensures { result ≡ length (cons_if (differs (kept_in store.now) (at_name x.name.0) new.now e.0) e.0 []) }
 {
-    let MaybeText::Text(_) = reference_text(store, e) else {
+    let Some(_) = reference_text(store, e) else {
         return 0;
     };
     match moved_by_name(store, e, x, new) {
-        Moved::To(_) => 1,
-        Moved::Stays => 0,
+        Some(_) => 1,
+        None => 0,
     }
 }
 
@@ -68,16 +69,16 @@ fn move_one(store: &mut [u8], e: ExprId, x: Named, new: &[u8], moved: &mut [u8],
     requires { Long store.old × (About store.old x × Fits (differs (kept_in store.old) (at_name x.name.0) new.now e.0) n moved.old) }
     ensures { MovesOne (at_name x.name.0) new.now e.0 n store.old moved.old result store.new moved.new }
 {
-    let MaybeText::Text(_) = reference_text(store, e) else {
+    let Some(_) = reference_text(store, e) else {
         return n;
     };
     match moved_by_name(store, e, x, new) {
-        Moved::To(a) => {
+        Some(a) => {
             set_answer(store, e, a);
             put32(moved, 4 * n, e.0);
             n + 1
         }
-        Moved::Stays => n,
+        None => n,
     }
 }
 

@@ -6,7 +6,8 @@ ghost use Rattle.layout.specs.Layout.{Long};
 ghost use Rattle.layout.specs.Keeps.{kept_in};
 ghost use Rattle.moving.specs.Moving.{Refers, MovesTo, Movable, Moves};
 
-use crate::moved::{Moved, unless_kept};
+use crate::moved::unless_kept;
+use answer::Answer;
 use kept::set_answer;
 use layout::tables::ABSENT;
 use listing::list_references;
@@ -15,7 +16,7 @@ use resolve::resolve_as;
 use words::put32;
 
 // What becomes of it, as if it had the new text; every name is read as it stands.
-fn moved_by_reference(store: &[u8], e: ExprId, new: &[u8]) -> Moved
+fn moved_by_reference(store: &[u8], e: ExprId, new: &[u8]) -> Option<Answer>
     requires { Long store.now × Refers e.0 store.now }
     ensures { MovesTo (at_reference e.0) new.now e.0 store.now result }
 {
@@ -29,8 +30,8 @@ pub fn count_moved_by_reference(store: &[u8], e: ExprId, new: &[u8]) -> u32
     ensures { result ≡ length (moved_by (kept_in store.now) (at_reference e.0) new.now) }
 {
     match moved_by_reference(store, e, new) {
-        Moved::To(_) => 1,
-        Moved::Stays => 0,
+        Some(_) => 1,
+        None => 0,
     }
 }
 
@@ -40,11 +41,11 @@ pub fn move_by_reference(store: &mut [u8], e: ExprId, new: &[u8], moved: &mut [u
     ensures { Moves (at_reference e.0) new.now store.old moved.old store.new moved.new }
 {
     match moved_by_reference(store, e, new) {
-        Moved::To(a) => {
+        Some(a) => {
             set_answer(store, e, a);
             put32(moved, 0, e.0);
             list_references(store);
         }
-        Moved::Stays => {}
+        None => {}
     }
 }

@@ -11,7 +11,7 @@ ghost use Rattle.layout.specs.Keeps.{scopes_in};
 ghost use Rattle.moving.specs.Moving.{About};
 
 use kept::{scope_holding, scope_of};
-use module::{ExprId, MaybeScope, MaybeText, NameId, TextId};
+use module::{ExprId, NameId, ScopeId, TextId};
 use resolve::within;
 use rows::{name_text, reference_text};
 use texts::{text_is, texts_equal};
@@ -21,7 +21,7 @@ use texts::{text_is, texts_equal};
 pub struct Named {
     pub name: NameId,
     pub text: TextId,
-    pub scope: MaybeScope,
+    pub scope: Option<ScopeId>,
 }
 
 pub fn find_name(store: &[u8], x: NameId) -> Named
@@ -42,7 +42,7 @@ fn bears_either(store: &[u8], e: ExprId, old: TextId, new: &[u8]) -> bool
     requires { Long store.now }
     ensures { result ≡ (bears (text_in store.now old.0) (reference_text (expr_at (module_in store.now) e.0)) || bears new.now (reference_text (expr_at (module_in store.now) e.0))) }
 {
-    let MaybeText::Text(t) = reference_text(store, e) else {
+    let Some(t) = reference_text(store, e) else {
         return false;
     };
     if texts_equal(store, old, t) {

@@ -27,8 +27,6 @@ use Rattle.layout.proofs.RowLaws.{length_rows, cap_le}
 use Rattle.layout.proofs.Frames.{same_on, number_kept, wrote_none, wrote_then}
 use Rattle.layout.proofs.WriteLaws.{still_then}
 use Rattle.words.specs.Words.{word}
-use Rattle.module.specs.declared.ids.MaybeText.{MaybeText}
-use Rattle.module.specs.declared.ids.MaybeText.TheVariants as maybe_text_lem
 use Rattle.answer.specs.declared.answer.Answer.{Answer}
 use Rattle.answer.specs.declared.answer.Answer.TheVariants.{Unresolved}
 use Rattle.answer.specs.Answers.{answer_with}
@@ -42,6 +40,8 @@ use Rattle.nameres.specs.Resolution.{Nameable, Scoped, with_answers, set_to, Ans
 use Rattle.nameres.proofs.HeldLaws.{answer_held, word_fits}
 use Rattle.nameres.proofs.AnswerLoops.{set_to_all}
 use Rattle.kept.proofs.AnswerLaws.{scopes_of_lem}
+use Rattle.module.specs.declared.ids.TextId as rust_text_id
+use Rattle.std.specs.Prelude as rust
 
 pub module_kept : (s : List ℕ) → (kept_in s).lowered ≡ module_in s
 unfolding kept_in
@@ -117,7 +117,7 @@ module _ (s t : List ℕ) (e : ExprId) (a : Answer) (put : Answered e a s t) (lo
 
 -- ---- one expression
 -- what is no Reference has no answer
-pub afresh_other : (s t : List ℕ) (e : ExprId) (r : MaybeText) → maybe_text s r ≡ reference_text (expr_at (module_in s) e) → r ≡ maybe_text_lem.Absent → Answered e Unresolved s t → AnswersOne e s t
+pub afresh_other : (s t : List ℕ) (e : ExprId) (r : rust.Option rust_text_id.TextId) → maybe_text s r ≡ reference_text (expr_at (module_in s) e) → r ≡ rust.None → Answered e Unresolved s t → AnswersOne e s t
 unfolding one_afresh answer answer_of maybe_text keep_answer answer_word answered_now instead_of with_answers
 afresh_other s t e r h q put =
     let n : reference_text (expr_at (module_in s) e) ≡ none = sym h ∙ ap (maybe_text s) q in
@@ -133,8 +133,8 @@ afresh_other s t e r h q put =
       fit = put_fit s t e Unresolved put low;
     }
 
-module _ (s t : List ℕ) (e k : ℕ) (r : MaybeText) (a : Answer)
-    (h : maybe_text s r ≡ reference_text (expr_at (module_in s) e)) (q : r ≡ maybe_text_lem.Text (record { 0 = k }))
+module _ (s t : List ℕ) (e k : ℕ) (r : rust.Option rust_text_id.TextId) (a : Answer)
+    (h : maybe_text s r ≡ reference_text (expr_at (module_in s) e)) (q : r ≡ rust.Some (record { 0 = k }))
     (says : answer_with a (withs_at (scopes_in s) e) ≡ answer_at (text_of_name (module_in s)) (scopes_in s).scopes (text_in s k) (scope_of_expr (scopes_in s) e))
     (put : Answered e a s t) where
   has_text_lem : reference_text (expr_at (module_in s) e) ≡ some (text_in s k)

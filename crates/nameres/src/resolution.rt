@@ -6,7 +6,7 @@ ghost use Rattle.nameres.specs.Resolution.{AnswersOne, AnswersAll, Resolved};
 use answer::Answer;
 use kept::set_answer;
 use listing::list_references;
-use module::{ExprId, MaybeText};
+use module::{ExprId, TextId};
 use resolve::resolve_name;
 use rows::{expr_count, reference_text};
 
@@ -16,11 +16,11 @@ fn answer_afresh(store: &mut [u8], e: ExprId)
     ensures { AnswersOne e.0 store.old store.new }
 {
     match reference_text(store, e) {
-        MaybeText::Text(t) => {
+        Some(t) => {
             let a = resolve_name(store, e, t);
             set_answer(store, e, a);
         }
-        MaybeText::Absent => {
+        None => {
             set_answer(store, e, Answer::Unresolved);
         }
     }

@@ -15,11 +15,10 @@ use Rattle.layout.specs.Rows.{cap, marked}
 use Rattle.layout.specs.States.{value_of, entry_in, entries_of, state_of}
 use Rattle.layout.proofs.RowLaws.{length_rows, get_d_rows, get_d_past}
 use Rattle.open_sets.specs.declared.entry.SetId.{SetId}
-use Rattle.open_sets.specs.declared.entry.MaybeSet.{MaybeSet}
-use Rattle.open_sets.specs.declared.entry.MaybeSet.TheVariants.{Set}
 use Rattle.open_sets.specs.declared.entry.Entry.{Entry}
 use Rattle.open_sets.specs.declared.entry_rows.EntryRow.{EntryRow}
 use Rattle.open_sets.specs.Entries.{maybe_set_of, HeldSet, entry_with, ReadsEntry}
+use Rattle.std.specs.Prelude as rust
 
 -- ---- words of a row
 -- every sort from 3 on is the last one
@@ -27,7 +26,7 @@ pub value_last : (sort e : ℕ) → (sort ≡ 0 → ⊥) → (sort ≡ 1 → ⊥
 unfolding value_of
 value_last sort e a b c = rw (ne_eqb sort 0 a, ne_eqb sort 1 b, ne_eqb sort 2 c)
 
-pub set_held : (m : MaybeSet) (t : SetId) → m ≡ Set t → HeldSet m → marked t.0 ≡ maybe_set_of m
+pub set_held : (m : rust.Option SetId) (t : SetId) → m ≡ rust.Some t → HeldSet m → marked t.0 ≡ maybe_set_of m
 unfolding HeldSet maybe_set_of marked
 set_held m t e h = let l : t.0 < absent = rw e at h in rw (e, ne_eqb t.0 absent (λ z. omega arith))
 

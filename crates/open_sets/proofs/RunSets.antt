@@ -15,11 +15,11 @@ use Rattle.layout.specs.Layout.{entry_limit}
 use Rattle.layout.specs.States.{entries_of, state_of, order_of}
 use Rattle.open_sets.specs.declared.entry.Entry.{Entry}
 use Rattle.open_sets.specs.declared.standing.Standing.{Standing}
-use Rattle.open_sets.specs.declared.run.NextEntry.TheVariants as next_entry
 use Rattle.open_sets.specs.Ranks.{standing, placed}
 use Rattle.open_sets.specs.Entries.{entry_with}
 use Rattle.open_sets.specs.Run.{standing_with, Stands, while_of, run_from, NextInRun}
 use Rattle.open_sets.proofs.RunReads.{length_order, placed_is}
+use Rattle.std.specs.Prelude as rust
 
 -- ---- the entries from a place on
 pub run_from_lem : (s : ℕ) (es : List MergingEntry) (run : List ℕ) (j : ℕ) (b : Bool) → j < length run → eqb (set_of (placed es run j)) s ≡ b → run_from s es run j ≡ elim b [ true ↦ placed es run j ∷ run_from s es run (j + 1) | false ↦ [] ]
@@ -37,7 +37,7 @@ unfolding standing_with standing
 set_is s p e stands = let z = stands.same s in cc
 
 module _ (s : List ℕ) (j n set : ℕ) (en : n ≡ length (entries_of s)) where
-  pub next_past : n ≤ j → NextInRun s set j next_entry.End
+  pub next_past : n ≤ j → NextInRun s set j rust.None
   unfolding NextInRun
   next_past h = run_end set (entries_of s) (order_of s) j (omega (arith, length_order s))
 
@@ -48,10 +48,10 @@ module _ (s : List ℕ) (j n set : ℕ) (en : n ≡ length (entries_of s)) where
     whose : set_of (placed (entries_of s) (order_of s) j) ≡ p.set
     whose = rw here (set_is s p e stands)
 
-    pub next_other : (p.set ≡ set → ⊥) → NextInRun s set j next_entry.End
+    pub next_other : (p.set ≡ set → ⊥) → NextInRun s set j rust.None
     unfolding NextInRun
     next_other ne = run_from_lem set (entries_of s) (order_of s) j false (omega (arith, length_order s)) (rw whose (ne_eqb p.set set ne))
 
-    pub next_here : n ≤ entry_limit → p.set ≡ set → NextInRun s set j (next_entry.Entry e)
+    pub next_here : n ≤ entry_limit → p.set ≡ set → NextInRun s set j (rust.Some e)
     unfolding NextInRun
     next_here few eq = (rw (← here) (run_from_lem set (entries_of s) (order_of s) j true (omega (arith, length_order s)) (rw whose (eq-eqb p.set set eq))), omega arith)

@@ -12,22 +12,21 @@ use Rattle.layout.specs.Changes.{Wrote, Still}
 use Rattle.layout.specs.Texts.{text_in}
 use Rattle.layout.specs.States.{entry_of, entry_in}
 use Rattle.store.specs.Work.{Working, with_state}
-use Rattle.open_sets.specs.declared.entry.MaybeSet.{MaybeSet}
-use Rattle.open_sets.specs.declared.entry.MaybeSet.TheVariants as maybe_set
-use Rattle.open_sets.specs.declared.entry.MaybeValue.{MaybeValue}
-use Rattle.open_sets.specs.declared.entry.MaybeValue.TheVariants as maybe_value
 use Rattle.open_sets.specs.declared.entry.Entry.{Entry}
 use Rattle.open_sets.specs.declared.entry.Entry.TheVariants.{Static, Source, Dynamic}
 use Rattle.open_sets.specs.declared.entry_rows.EntryRow.{EntryRow}
+use Rattle.open_sets.specs.declared.entry.SetId as rust_set_id
+use Rattle.module.specs.declared.ids.BindingValue as rust_binding_value
+use Rattle.std.specs.Prelude as rust
 
 -- ---- what the code's entries are
-unfoldable pub maybe_set_of : MaybeSet → Option state.SetId
-maybe_set_of (maybe_set.Set t) = some t.0
-maybe_set_of maybe_set.Absent = none
+unfoldable pub maybe_set_of : rust.Option rust_set_id.SetId → Option state.SetId
+maybe_set_of (rust.Some t) = some t.0
+maybe_set_of rust.None = none
 
-unfoldable pub maybe_value_of : MaybeValue → Option spec.BindingValue
-maybe_value_of (maybe_value.Value v) = some (binding_of v)
-maybe_value_of maybe_value.Absent = none
+unfoldable pub maybe_value_of : rust.Option rust_binding_value.BindingValue → Option spec.BindingValue
+maybe_value_of (rust.Some v) = some (binding_of v)
+maybe_value_of rust.None = none
 
 -- texts by their numbers in the store
 unfoldable pub entry_with : List ℕ → Entry → MergingEntry
@@ -36,9 +35,9 @@ entry_with s (Source set e) = source set.0 e.0
 entry_with s (Dynamic set k v) = dynamic set.0 k.0 v.0
 
 -- a nested set can stand in a row: its number is not the mark
-unfoldable pub HeldSet : MaybeSet → Type 0
-HeldSet (maybe_set.Set t) = t.0 < absent
-HeldSet maybe_set.Absent = Unit {0}
+unfoldable pub HeldSet : rust.Option rust_set_id.SetId → Type 0
+HeldSet (rust.Some t) = t.0 < absent
+HeldSet rust.None = Unit {0}
 
 unfoldable pub Storable : Entry → Type 0
 Storable (Static set key x nested value) = HeldSet nested

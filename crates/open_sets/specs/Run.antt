@@ -17,10 +17,7 @@ use Rattle.open_sets.specs.Ranks.{standing, InOrder, placed}
 use Rattle.open_sets.specs.Entries.{entry_with}
 use Rattle.open_sets.specs.declared.entry.Entry.{Entry}
 use Rattle.open_sets.specs.declared.standing.Standing.{Standing}
-use Rattle.open_sets.specs.declared.run.MaybeEntry.{MaybeEntry}
-use Rattle.open_sets.specs.declared.run.MaybeEntry.TheVariants as maybe_entry
-use Rattle.open_sets.specs.declared.run.NextEntry.{NextEntry}
-use Rattle.open_sets.specs.declared.run.NextEntry.TheVariants as next_entry
+use Rattle.std.specs.Prelude as rust
 
 -- ---- where entries stand
 unfoldable pub standing_with : List ℕ → Standing → List ℕ
@@ -49,9 +46,9 @@ pub record Place (past : Bool) (p : Standing) (s : List ℕ) (r : ℕ) : Type 0 
   pub passes : InOrder (entries_of s) (order_of s) → (j : ℕ) → r ≤ j → j < length (entries_of s) → stops_at past p s j ≡ true
 
 -- ---- an entry that may be absent
-unfoldable pub maybe_entry_of : MaybeEntry → Option ℕ
-maybe_entry_of (maybe_entry.Entry i) = some i
-maybe_entry_of maybe_entry.Absent = none
+unfoldable pub maybe_entry_of : rust.Option ℕ → Option ℕ
+maybe_entry_of (rust.Some i) = some i
+maybe_entry_of rust.None = none
 
 unfoldable pub is_equal : Order → Bool
 is_equal Less = false
@@ -75,9 +72,9 @@ unfoldable pub run_from : SetId → List MergingEntry → List ℕ → ℕ → L
 run_from s es order j = while_of s es (drop j order)
 
 -- the entry at the place j, if it is one of the set s
-unfoldable pub NextInRun : List ℕ → SetId → ℕ → NextEntry → Type 0
-NextInRun st s j next_entry.End = run_from s (entries_of st) (order_of st) j ≡ []
-NextInRun st s j (next_entry.Entry e) = (run_from s (entries_of st) (order_of st) j ≡ entry_with st e ∷ run_from s (entries_of st) (order_of st) (j + 1)) × (j < entry_limit)
+unfoldable pub NextInRun : List ℕ → SetId → ℕ → rust.Option Entry → Type 0
+NextInRun st s j rust.None = run_from s (entries_of st) (order_of st) j ≡ []
+NextInRun st s j (rust.Some e) = (run_from s (entries_of st) (order_of st) j ≡ entry_with st e ∷ run_from s (entries_of st) (order_of st) (j + 1)) × (j < entry_limit)
 
 -- ---- an entry that is added
 -- past the limit nothing is added

@@ -6,21 +6,9 @@ use module::{BindingValue, ExprId, NameId, TextId};
 pub struct SetId(pub u32);
 
 #[derive(Clone, Copy)]
-pub enum MaybeSet {
-    Set(SetId),
-    Absent,
-}
-
-#[derive(Clone, Copy)]
-pub enum MaybeValue {
-    Value(BindingValue),
-    Absent,
-}
-
-#[derive(Clone, Copy)]
 pub enum Entry {
     // Set, key, its name, its nested set, its value.
-    Static(SetId, TextId, NameId, MaybeSet, MaybeValue),
+    Static(SetId, TextId, NameId, Option<SetId>, Option<BindingValue>),
     // Set, one of its inherit_froms.
     Source(SetId, ExprId),
     // Set, key, value.

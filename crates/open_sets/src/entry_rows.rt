@@ -1,11 +1,11 @@
 // How an entry lies in its row, and how it is read from one. Every row gives something, whatever it
 // holds.
-ghost use Rattle.std.specs.Prelude.{◌≡◌};
+ghost use Rattle.std.specs.Prelude.{Some, ◌≡◌};
 ghost use Rattle.layout.specs.Rows.{marked};
 ghost use Rattle.layout.specs.States.{value_of};
 ghost use Rattle.open_sets.specs.Entries.{maybe_set_of, maybe_value_of, HeldSet, Storable, SaysEntry, ReadsEntry};
 
-use crate::entry::{Entry, MaybeSet, MaybeValue, SetId};
+use crate::entry::{Entry, SetId};
 use layout::tables::ABSENT;
 use module::{BindingValue, ExprId, NameId, TextId};
 
@@ -28,24 +28,24 @@ pub struct ValueWords {
     pub value: u32,
 }
 
-fn set_of(n: u32) -> MaybeSet
+fn set_of(n: u32) -> Option<SetId>
     ensures { maybe_set_of result ≡ marked n }
 {
     if n == ABSENT {
-        return MaybeSet::Absent;
+        return None;
     }
-    MaybeSet::Set(SetId(n))
+    Some(SetId(n))
 }
 
-fn value_of(sort: u32, value: u32) -> MaybeValue
+fn value_of(sort: u32, value: u32) -> Option<BindingValue>
     ensures { maybe_value_of result ≡ value_of sort value }
 {
     let e = ExprId(value);
     match sort {
-        0 => MaybeValue::Absent,
-        1 => MaybeValue::Value(BindingValue::Expr(e)),
-        2 => MaybeValue::Value(BindingValue::Inherit(e)),
-        _ => MaybeValue::Value(BindingValue::InheritFrom(e)),
+        0 => None,
+        1 => Some(BindingValue::Expr(e)),
+        2 => Some(BindingValue::Inherit(e)),
+        _ => Some(BindingValue::InheritFrom(e)),
     }
 }
 
@@ -65,18 +65,18 @@ pub fn entry_of(row: EntryRow) -> Entry
     }
 }
 
-fn set_number(s: MaybeSet) -> u32
+fn set_number(s: Option<SetId>) -> u32
     requires { HeldSet s }
     ensures { marked result ≡ maybe_set_of s }
 {
     match s {
-        MaybeSet::Set(n) => n.0,
-        MaybeSet::Absent => ABSENT,
+        Some(n) => n.0,
+        None => ABSENT,
     }
 }
 
 pub fn binding_words(v: BindingValue) -> ValueWords
-    ensures { value_of result.sort result.value ≡ maybe_value_of (MaybeValue.Value v) }
+    ensures { value_of result.sort result.value ≡ maybe_value_of (Some v) }
 {
     match v {
         BindingValue::Expr(e) => ValueWords {
@@ -94,12 +94,12 @@ pub fn binding_words(v: BindingValue) -> ValueWords
     }
 }
 
-fn value_words(v: MaybeValue) -> ValueWords
+fn value_words(v: Option<BindingValue>) -> ValueWords
     ensures { value_of result.sort result.value ≡ maybe_value_of v }
 {
     match v {
-        MaybeValue::Value(b) => binding_words(b),
-        MaybeValue::Absent => ValueWords { sort: 0, value: 0 },
+        Some(b) => binding_words(b),
+        None => ValueWords { sort: 0, value: 0 },
     }
 }
 

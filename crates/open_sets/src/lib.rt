@@ -14,6 +14,6 @@ mod standing;
 
 pub use add::add_entry;
 pub use entries::{entry_at, entry_count, set_nested, set_value};
-pub use entry::{Entry, MaybeSet, MaybeValue, SetId};
-pub use run::{MaybeEntry, NextEntry, entry_of, find, first_of};
+pub use entry::{Entry, SetId};
+pub use run::{entry_of, find, first_of};
 pub use sets::{cut, open_set, set_count, set_name_kind, set_pointer};

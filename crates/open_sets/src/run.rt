@@ -17,18 +17,6 @@ use layout::wide;
 use module::TextId;
 use words::{Order, get32};
 
-#[derive(Clone, Copy)]
-pub enum MaybeEntry {
-    Entry(u32),
-    Absent,
-}
-
-#[derive(Clone, Copy)]
-pub enum NextEntry {
-    End,
-    Entry(Entry),
-}
-
 // The number of the entry at the place j; past the end 0.
 fn in_run(store: &[u8], j: u32) -> u32
     requires { Long store.now }
@@ -79,22 +67,22 @@ pub fn place(store: &[u8], p: Standing, past: bool) -> u32
 }
 
 // The entry at the place j, if it stands where p does.
-fn found_at(store: &[u8], j: u32, p: Standing) -> MaybeEntry
+fn found_at(store: &[u8], j: u32, p: Standing) -> Option<u32>
     requires { Long store.now }
     ensures { maybe_entry_of result ≡ found_at store.now j p }
 {
     if j < entry_count(store) {
         return match compare_at(store, j, p) {
-            Order::Less => MaybeEntry::Absent,
-            Order::Equal => MaybeEntry::Entry(in_run(store, j)),
-            Order::Greater => MaybeEntry::Absent,
+            Order::Less => None,
+            Order::Equal => Some(in_run(store, j)),
+            Order::Greater => None,
         };
     }
-    MaybeEntry::Absent
+    None
 }
 
 // The number of the entry that has the key in the set.
-pub fn find(store: &[u8], s: SetId, key: TextId) -> MaybeEntry
+pub fn find(store: &[u8], s: SetId, key: TextId) -> Option<u32>
     requires { Long store.now }
     ensures { InOrder (entries_of store.now) (order_of store.now) → maybe_entry_of result ≡ merge.find s.0 (text_in store.now key.0) (state_of store.now) }
 {
@@ -121,7 +109,7 @@ pub fn first_of(store: &[u8], s: SetId) -> u32
 }
 
 // The entry at the place j, if it is one of the set.
-pub fn entry_of(store: &[u8], s: SetId, j: u32) -> NextEntry
+pub fn entry_of(store: &[u8], s: SetId, j: u32) -> Option<Entry>
     requires { Long store.now }
     ensures { NextInRun store.now s.0 j result }
 {
@@ -129,8 +117,8 @@ pub fn entry_of(store: &[u8], s: SetId, j: u32) -> NextEntry
         let e = entry_at(store, in_run(store, j));
         let p = standing_of(e);
         if p.set == s.0 {
-            return NextEntry::Entry(e);
+            return Some(e);
         }
     }
-    NextEntry::End
+    None
 }

@@ -6,10 +6,10 @@ use Prim.Native.Nat.{ℕ, zero, suc, ◌-◌, ◌<◌}
 use native.Mathlib.Omega.{arith}
 use Rattle.spec.specs.Scopes.{Scope}
 use Rattle.spec.specs.Answer.{scope_at, chain_to, chain}
-use Rattle.module.specs.declared.ids.MaybeScope.{MaybeScope}
-use Rattle.module.specs.declared.ids.MaybeScope.TheVariants.{Absent}
 use Rattle.module.specs.Ids.{scope_of}
 use Rattle.resolve.specs.Chain.{Outer}
+use Rattle.module.specs.declared.ids.ScopeId as rust_scope_id
+use Rattle.std.specs.Prelude as rust
 
 pub not_some : {A : Type 0} {x : A} → none ≡ some x → ⊥
 not_some e = let z : ◌≡◌ {A = ℕ} 0 1 = cc in omega arith
@@ -32,9 +32,9 @@ module _ (scopes : List Scope) where
   chain_begun s = refl
 
   -- ---- the step
-  pub bound_met : (s left : ℕ) → left ≡ 0 → Outer scopes s left Absent
+  pub bound_met : (s left : ℕ) → left ≡ 0 → Outer scopes s left rust.None
   unfolding chain_to scope_of
   bound_met s left e = record { rest = rw e; low = λ p z. absurd (not_some z) }
 
-  pub parent_followed : (s left : ℕ) (r : MaybeScope) → (left ≡ 0 → ⊥) → scope_of r ≡ (scope_at scopes s).parent → Outer scopes s left r
+  pub parent_followed : (s left : ℕ) (r : rust.Option rust_scope_id.ScopeId) → (left ≡ 0 → ⊥) → scope_of r ≡ (scope_at scopes s).parent → Outer scopes s left r
   parent_followed s left r h e = record { rest = ap (chain_to scopes left) (sym e); low = λ p z. omega (arith, h) }

@@ -9,8 +9,6 @@ use Rattle.words.specs.Words.{word}
 use Rattle.spec.specs.Scopes.{ScopeKind, definitions, with_expr, Scope}
 use Rattle.spec.specs.Answer.{scope_at, chain, if_with, withs_of}
 use Rattle.module.specs.declared.ids.ScopeId.{ScopeId}
-use Rattle.module.specs.declared.ids.MaybeScope.{MaybeScope}
-use Rattle.module.specs.declared.ids.MaybeScope.TheVariants.{Scope as Inside, Absent}
 use Rattle.layout.specs.Layout.{scope_limit, scope_count}
 use Rattle.layout.specs.Keeps.{scopes_in}
 use Rattle.layout.proofs.RowLaws.{cap_lim}
@@ -19,6 +17,7 @@ use Rattle.kept.proofs.ScopeReads.{length_scopes}
 use Rattle.resolve.specs.Chain.{Outer}
 use Rattle.resolve.proofs.ChainLaws.{chain_none, chain_here, chain_begun}
 use Rattle.resolve.proofs.WithLaws.{with_is, with_none, Around, around, around_last, around_next, outer_low}
+use Rattle.std.specs.Prelude as rust
 
 -- ---- one scope
 pub one_own : (k : ScopeKind) {e : ℕ} → some e ≡ with_of k → 1 ≡ length (if_with k)
@@ -56,14 +55,14 @@ module _ {scopes : List Scope} {a left i n : ℕ} (c : Counting scopes a left i 
   pub count_fits_lem : a < scope_limit → n + r < 5000
   count_fits_lem h = omega (arith, c.low, own_low (scope_at scopes i).kind)
 
-  module _ {next : MaybeScope} (o : Outer scopes i left next) where
-    pub counting_done : next ≡ Absent → n + r ≡ length (withs_of scopes (chain scopes a))
+  module _ {next : rust.Option ScopeId} (o : Outer scopes i left next) where
+    pub counting_done : next ≡ rust.None → n + r ≡ length (withs_of scopes (chain scopes a))
     counting_done q =
         let e : length (Around scopes left i) ≡ length (if_with (scope_at scopes i).kind) + 0 = ap length (around_last scopes o q) ∙ length-append (if_with (scope_at scopes i).kind) [] in
         let f : length (withs_of scopes (chain scopes a)) ≡ length (Around scopes a a) = ap length (around scopes a) in
         omega (arith, c.total)
 
-    pub counting_on : {p : ScopeId} → next ≡ Inside p → Counting scopes a (left - 1) p.0 (n + r)
+    pub counting_on : {p : ScopeId} → next ≡ rust.Some p → Counting scopes a (left - 1) p.0 (n + r)
     counting_on {p} q =
         let e : length (Around scopes left i) ≡ length (if_with (scope_at scopes i).kind) + length (Around scopes (left - 1) p.0) = ap length (around_next scopes o q) ∙ length-append (if_with (scope_at scopes i).kind) (Around scopes (left - 1) p.0) in
         record { total = omega (arith, c.total); low = omega (arith, c.low, own_low (scope_at scopes i).kind, outer_low scopes o q) }

@@ -17,32 +17,31 @@ use Rattle.kept.specs.Answers.{withs_in, withs_at}
 use Rattle.builtins.specs.declared.lookup.MaybeBuiltin.{MaybeBuiltin}
 use Rattle.builtins.specs.declared.lookup.MaybeBuiltin.TheVariants.{Builtin as Number, Absent}
 use Rattle.builtins.specs.Lookup.{builtin_of}
-use Rattle.resolve.specs.declared.search.Found.{Found}
-use Rattle.resolve.specs.declared.search.Found.TheVariants.{In, Nowhere}
 use Rattle.resolve.specs.Search.{found_of}
 use Rattle.resolve.specs.Withs.{some_of}
 use Rattle.resolve.specs.Names.{unhidden, bound_or}
 use Rattle.resolve.proofs.ChainLaws.{not_some}
+use Rattle.std.specs.Prelude as rust
 
 -- ---- a built-in name
-pub hidden : {f : Found} {s : ScopeId} {x : NameId} (b : Option ℕ) → f ≡ In s x → none ≡ unhidden (found_of f) b
+pub hidden : {f : rust.Option (ScopeId × NameId)} {s : ScopeId} {x : NameId} (b : Option ℕ) → f ≡ rust.Some (s, x) → none ≡ unhidden (found_of f) b
 unfolding found_of unhidden
-hidden b e = sym (ap (λ (g : Found). unhidden (found_of g) b) e)
+hidden b e = sym (ap (λ (g : rust.Option (ScopeId × NameId)). unhidden (found_of g) b) e)
 
-pub not_hidden : {f : Found} {o b : Option ℕ} → f ≡ Nowhere → o ≡ b → o ≡ unhidden (found_of f) b
+pub not_hidden : {f : rust.Option (ScopeId × NameId)} {o b : Option ℕ} → f ≡ rust.None → o ≡ b → o ≡ unhidden (found_of f) b
 unfolding found_of unhidden
-not_hidden {b} e h = h ∙ sym (ap (λ (g : Found). unhidden (found_of g) b) e)
+not_hidden {b} e h = h ∙ sym (ap (λ (g : rust.Option (ScopeId × NameId)). unhidden (found_of g) b) e)
 
 -- ---- a definition, or Withs
-pub bound : {f : Found} {s : ScopeId} {x : NameId} (es : List ℕ) → f ≡ In s x → answer_with (Definition x) es ≡ bound_or (found_of f) es
+pub bound : {f : rust.Option (ScopeId × NameId)} {s : ScopeId} {x : NameId} (es : List ℕ) → f ≡ rust.Some (s, x) → answer_with (Definition x) es ≡ bound_or (found_of f) es
 unfolding found_of bound_or answer_with
-bound es e = sym (ap (λ (g : Found). bound_or (found_of g) es) e)
+bound es e = sym (ap (λ (g : rust.Option (ScopeId × NameId)). bound_or (found_of g) es) e)
 
-unbound : (f : Found) (es : List ℕ) → f ≡ Nowhere → bound_or (found_of f) es ≡ some_withs es
+unbound : (f : rust.Option (ScopeId × NameId)) (es : List ℕ) → f ≡ rust.None → bound_or (found_of f) es ≡ some_withs es
 unfolding found_of bound_or
-unbound f es e = ap (λ (g : Found). bound_or (found_of g) es) e
+unbound f es e = ap (λ (g : rust.Option (ScopeId × NameId)). bound_or (found_of g) es) e
 
-pub withs_there : {f : Found} (es : List ℕ) {b : Bool} → f ≡ Nowhere → b ≡ some_of es → b ≡ true → answer_with Withs es ≡ bound_or (found_of f) es
+pub withs_there : {f : rust.Option (ScopeId × NameId)} (es : List ℕ) {b : Bool} → f ≡ rust.None → b ≡ some_of es → b ≡ true → answer_with Withs es ≡ bound_or (found_of f) es
 unfolding answer_with some_of some_withs
 withs_there {f} es e h q = listed es (sym h ∙ q) ∙ sym (unbound f es e)
   where
@@ -50,7 +49,7 @@ withs_there {f} es e h q = listed es (sym h ∙ q) ∙ sym (unbound f es e)
     listed [] z = cc
     listed (d ∷ ds) z = refl
 
-pub withs_lacking : {f : Found} (es : List ℕ) {b : Bool} → f ≡ Nowhere → b ≡ some_of es → b ≡ false → answer_with Unresolved es ≡ bound_or (found_of f) es
+pub withs_lacking : {f : rust.Option (ScopeId × NameId)} (es : List ℕ) {b : Bool} → f ≡ rust.None → b ≡ some_of es → b ≡ false → answer_with Unresolved es ≡ bound_or (found_of f) es
 unfolding answer_with some_of some_withs
 withs_lacking {f} es e h q = empty es (sym h ∙ q) ∙ sym (unbound f es e)
   where
@@ -59,7 +58,7 @@ withs_lacking {f} es e h q = empty es (sym h ∙ q) ∙ sym (unbound f es e)
     empty (d ∷ ds) z = cc
 
 -- ---- both together
-module _ (text_of : ℕ → Text) (scopes : List Scope) (t : Text) (ss : List ℕ) (f : Found) (found : found_of f ≡ innermost text_of scopes t ss) where
+module _ (text_of : ℕ → Text) (scopes : List Scope) (t : Text) (ss : List ℕ) (f : rust.Option (ScopeId × NameId)) (found : found_of f ≡ innermost text_of scopes t ss) where
   -- what the definitions make of a definition o, where a built-in name is asked for by b
   answered : (o : Option (ℕ × ℕ)) (i : Option ℕ) → unhidden o (index_from 0 t builtins) ≡ i → after_definitions scopes t ss o ≡ elim i [ some n ↦ spec.builtin n | none ↦ bound_or o (withs_of scopes ss) ]
   unfolding unhidden bound_or after_definitions after_builtins

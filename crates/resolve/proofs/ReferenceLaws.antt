@@ -7,11 +7,11 @@ use native.Mathlib.Omega.{arith}
 use lib.ListN.{length, drop, get_elem?, drop_of_length-le}
 use Rattle.words.specs.Words.{set_word}
 use Rattle.words.proofs.WordLaws.{length_set_word}
-use Rattle.module.specs.declared.ids.MaybeExpr.{MaybeExpr}
-use Rattle.module.specs.declared.ids.MaybeExpr.TheVariants.{Expr as Is, Absent}
 use Rattle.module.specs.Ids.{expr_of}
 use Rattle.layout.specs.Rows.{set_all}
 use Rattle.resolve.specs.Withs.{Lists}
+use Rattle.module.specs.declared.ids.ExprId as rust_expr_id
+use Rattle.std.specs.Prelude as rust
 
 -- ---- a list from a place on
 not_there : (es : List ℕ) (i : ℕ) → i < length es → get_elem? es i ≡ none → ⊥
@@ -32,8 +32,8 @@ pub record Copying (es b₀ : List ℕ) (i : ℕ) (b : List ℕ) : Type 0 where
 pub copying_none : (es b : List ℕ) → Copying es b 0 b
 copying_none es b = record { rest = refl; size = refl }
 
-module _ (es b₀ : List ℕ) (i : ℕ) (b : List ℕ) (d : Copying es b₀ i b) (r : MaybeExpr) (told : expr_of r ≡ get_elem? es i) where
-  pub copying_more : (e : ℕ) (c : List ℕ) → r ≡ Is (record { 0 = e }) → c ≡ set_word b (4 * i) e → Copying es b₀ (i + 1) c
+module _ (es b₀ : List ℕ) (i : ℕ) (b : List ℕ) (d : Copying es b₀ i b) (r : rust.Option rust_expr_id.ExprId) (told : expr_of r ≡ get_elem? es i) where
+  pub copying_more : (e : ℕ) (c : List ℕ) → r ≡ rust.Some (record { 0 = e }) → c ≡ set_word b (4 * i) e → Copying es b₀ (i + 1) c
   unfolding set_all expr_of
   copying_more e c q w =
       let there : get_elem? es i ≡ some e = sym told ∙ ap expr_of q in
@@ -41,7 +41,7 @@ module _ (es b₀ : List ℕ) (i : ℕ) (b : List ℕ) (d : Copying es b₀ i b)
       let at : 4 * i + 4 ≡ 4 * (i + 1) = omega arith in
       record { rest = d.rest ∙ rw (from_there es i e there, n, ← at, w); size = rw w (length_set_word b (4 * i) e) ∙ d.size }
 
-  pub copying_lost : i < length es → r ≡ Absent → b ≡ set_all b₀ 0 es
+  pub copying_lost : i < length es → r ≡ rust.None → b ≡ set_all b₀ 0 es
   unfolding expr_of
   copying_lost l q = absurd (not_there es i l (sym told ∙ ap expr_of q))
 

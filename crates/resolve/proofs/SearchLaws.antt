@@ -7,8 +7,6 @@ use Rattle.spec.specs.Basics.{Text}
 use Rattle.spec.specs.Scopes.{ScopeKind, definitions, with_expr, Scope}
 use Rattle.spec.specs.Answer.{scope_at, chain_to, chain, defined_in, innermost}
 use Rattle.module.specs.declared.ids.NameId.{NameId}
-use Rattle.module.specs.declared.ids.MaybeScope.{MaybeScope}
-use Rattle.module.specs.declared.ids.MaybeScope.TheVariants.{Scope as Inside, Absent}
 use Rattle.module.specs.declared.ids.ScopeId.{ScopeId}
 use Rattle.module.specs.Ids.{scope_of}
 use Rattle.kept.specs.Walks.{with_of}
@@ -17,6 +15,7 @@ use Rattle.resolve.specs.declared.search.Step.TheVariants.{Here, On}
 use Rattle.resolve.specs.Chain.{Outer}
 use Rattle.resolve.specs.Search.{after, goes_to, Looks}
 use Rattle.resolve.proofs.ChainLaws.{not_some, chain_none, chain_here, chain_more, chain_begun}
+use Rattle.std.specs.Prelude as rust
 
 -- a With defines no name
 none_in_with : (text_of : ℕ → Text) (t : Text) (k : ScopeKind) (e : ℕ) → some e ≡ with_of k → none ≡ defined_in text_of t k
@@ -45,11 +44,11 @@ module _ (text_of : ℕ → Text) (scopes : List Scope) (t : Text) where
   unfolding after goes_to
   looks_here i left x e = record { same = look_here i left x.0 e; low = λ p z. absurd (not_some z) }
 
-  pub looks_on : (i left : ℕ) (next : MaybeScope) → none ≡ defined_at i → Outer scopes i left next → Looks text_of scopes t i left (On next)
+  pub looks_on : (i left : ℕ) (next : rust.Option ScopeId) → none ≡ defined_at i → Outer scopes i left next → Looks text_of scopes t i left (On next)
   unfolding after goes_to
   looks_on i left next e o = record { same = look_on i left e ∙ ap (innermost text_of scopes t) o.rest; low = o.low }
 
-  pub looks_through : (i left : ℕ) (next : MaybeScope) (e : ℕ) → some e ≡ with_of (scope_at scopes i).kind → Outer scopes i left next → Looks text_of scopes t i left (On next)
+  pub looks_through : (i left : ℕ) (next : rust.Option ScopeId) (e : ℕ) → some e ≡ with_of (scope_at scopes i).kind → Outer scopes i left next → Looks text_of scopes t i left (On next)
   looks_through i left next e h o = looks_on i left next (none_in_with text_of t (scope_at scopes i).kind e h) o
 
   -- ---- from scope to scope
@@ -64,19 +63,19 @@ module _ (text_of : ℕ → Text) (scopes : List Scope) (t : Text) where
     unfolding after
     search_here e = sym (begun a ∙ asked ∙ here.same ∙ ap (after text_of scopes t i left) e)
 
-    module _ (next : MaybeScope) (e : r ≡ On next) where
+    module _ (next : rust.Option ScopeId) (e : r ≡ On next) where
       on : along (chain_to scopes (suc a) (some a)) ≡ along (chain_to scopes left (scope_of next))
       unfolding after
       on = asked ∙ here.same ∙ ap (after text_of scopes t i left) e
 
-      pub search_end : next ≡ Absent → none ≡ innermost text_of scopes t (chain scopes a)
+      pub search_end : next ≡ rust.None → none ≡ innermost text_of scopes t (chain scopes a)
       unfolding scope_of innermost
-      search_end q = sym (begun a ∙ on ∙ ap (λ (n : MaybeScope). along (chain_to scopes left (scope_of n))) q ∙ ap (innermost text_of scopes t) (chain_none scopes left))
+      search_end q = sym (begun a ∙ on ∙ ap (λ (n : rust.Option ScopeId). along (chain_to scopes left (scope_of n))) q ∙ ap (innermost text_of scopes t) (chain_none scopes left))
 
-      pub search_low : {p : ScopeId} → next ≡ Inside p → 0 < left
+      pub search_low : {p : ScopeId} → next ≡ rust.Some p → 0 < left
       unfolding scope_of goes_to
       search_low {p} q = here.low p.0 (ap goes_to e ∙ ap scope_of q)
 
-      pub search_on : {p : ScopeId} → next ≡ Inside p → Searching a (left - 1) p.0
+      pub search_on : {p : ScopeId} → next ≡ rust.Some p → Searching a (left - 1) p.0
       unfolding scope_of
-      search_on {p} q = on ∙ ap (λ (n : MaybeScope). along (chain_to scopes left (scope_of n))) q ∙ ap (innermost text_of scopes t) (chain_more scopes left (some p.0) (search_low q))
+      search_on {p} q = on ∙ ap (λ (n : rust.Option ScopeId). along (chain_to scopes left (scope_of n))) q ∙ ap (innermost text_of scopes t) (chain_more scopes left (some p.0) (search_low q))

@@ -7,13 +7,12 @@ use Prim.Native.Nat.{ℕ, suc, ◌-◌, ◌<◌}
 use Rattle.spec.specs.Scopes.{ScopeKind, definitions, with_expr, Scope}
 use Rattle.spec.specs.Answer.{scope_at, chain_to, chain, if_with, withs_of}
 use Rattle.module.specs.declared.ids.ScopeId.{ScopeId}
-use Rattle.module.specs.declared.ids.MaybeScope.{MaybeScope}
-use Rattle.module.specs.declared.ids.MaybeScope.TheVariants.{Scope as Inside, Absent}
 use Rattle.module.specs.Ids.{scope_of}
 use Rattle.kept.specs.Walks.{with_of}
 use Rattle.resolve.specs.Chain.{Outer}
 use Rattle.resolve.specs.Withs.{some_of}
 use Rattle.resolve.proofs.ChainLaws.{not_some, chain_none, chain_here, chain_more, chain_begun}
+use Rattle.std.specs.Prelude as rust
 
 -- ---- one scope
 pub with_is : (k : ScopeKind) {e : ℕ} → some e ≡ with_of k → if_with k ≡ e ∷ []
@@ -34,25 +33,25 @@ module _ (scopes : List Scope) where
   pub around : (a : ℕ) → withs_of scopes (chain scopes a) ≡ Around a a
   around a = ap (withs_of scopes) (chain_begun scopes a)
 
-  module _ {left i : ℕ} {next : MaybeScope} (o : Outer scopes i left next) where
+  module _ {left i : ℕ} {next : rust.Option ScopeId} (o : Outer scopes i left next) where
     step : Around left i ≡ if_with (scope_at scopes i).kind ++ withs_of scopes (chain_to scopes left (scope_of next))
     unfolding withs_of
     step = ap (withs_of scopes) (chain_here scopes left i ∙ ap (λ (ss : List ℕ). i ∷ ss) o.rest)
 
-    pub around_last : next ≡ Absent → Around left i ≡ if_with (scope_at scopes i).kind ++ []
+    pub around_last : next ≡ rust.None → Around left i ≡ if_with (scope_at scopes i).kind ++ []
     unfolding withs_of scope_of
     around_last q =
-        step ∙ ap (λ (n : MaybeScope). if_with (scope_at scopes i).kind ++ withs_of scopes (chain_to scopes left (scope_of n))) q
+        step ∙ ap (λ (n : rust.Option ScopeId). if_with (scope_at scopes i).kind ++ withs_of scopes (chain_to scopes left (scope_of n))) q
         ∙ ap (λ (ss : List ℕ). if_with (scope_at scopes i).kind ++ withs_of scopes ss) (chain_none scopes left)
 
-    pub outer_low : {p : ScopeId} → next ≡ Inside p → 0 < left
+    pub outer_low : {p : ScopeId} → next ≡ rust.Some p → 0 < left
     unfolding scope_of
     outer_low {p} q = o.low p.0 (ap scope_of q)
 
-    pub around_next : {p : ScopeId} → next ≡ Inside p → Around left i ≡ if_with (scope_at scopes i).kind ++ Around (left - 1) p.0
+    pub around_next : {p : ScopeId} → next ≡ rust.Some p → Around left i ≡ if_with (scope_at scopes i).kind ++ Around (left - 1) p.0
     unfolding scope_of
     around_next {p} q =
-        step ∙ ap (λ (n : MaybeScope). if_with (scope_at scopes i).kind ++ withs_of scopes (chain_to scopes left (scope_of n))) q
+        step ∙ ap (λ (n : rust.Option ScopeId). if_with (scope_at scopes i).kind ++ withs_of scopes (chain_to scopes left (scope_of n))) q
         ∙ ap (λ (ss : List ℕ). if_with (scope_at scopes i).kind ++ withs_of scopes ss) (chain_more scopes left (some p.0) (outer_low q))
 
   -- ---- whether there is any
@@ -61,10 +60,10 @@ module _ (scopes : List Scope) where
     unfolding some_of withs_of
     with_seen h = sym (ap some_of (around a) ∙ asked ∙ ap some_of (ap (withs_of scopes) (chain_here scopes left i)) ∙ rw (with_is (scope_at scopes i).kind h))
 
-    module _ (n : none ≡ with_of (scope_at scopes i).kind) {next : MaybeScope} (o : Outer scopes i left next) where
-      pub none_seen : next ≡ Absent → false ≡ some_of (withs_of scopes (chain scopes a))
+    module _ (n : none ≡ with_of (scope_at scopes i).kind) {next : rust.Option ScopeId} (o : Outer scopes i left next) where
+      pub none_seen : next ≡ rust.None → false ≡ some_of (withs_of scopes (chain scopes a))
       unfolding some_of
       none_seen q = sym (ap some_of (around a) ∙ asked ∙ ap some_of (around_last o q) ∙ rw (with_none (scope_at scopes i).kind n))
 
-      pub none_yet : {p : ScopeId} → next ≡ Inside p → some_of (Around a a) ≡ some_of (Around (left - 1) p.0)
+      pub none_yet : {p : ScopeId} → next ≡ rust.Some p → some_of (Around a a) ≡ some_of (Around (left - 1) p.0)
       none_yet q = asked ∙ ap some_of (around_next o q) ∙ rw (with_none (scope_at scopes i).kind n)

@@ -9,8 +9,6 @@ use Rattle.words.specs.Words.{set_word}
 use Rattle.spec.specs.Scopes.{ScopeKind, Scope, Scopes}
 use Rattle.spec.specs.Answer.{scope_at, chain_to, chain, if_with, withs_of, scope_of_expr}
 use Rattle.module.specs.declared.ids.ScopeId.{ScopeId}
-use Rattle.module.specs.declared.ids.MaybeScope.{MaybeScope}
-use Rattle.module.specs.declared.ids.MaybeScope.TheVariants.{Scope as Inside, Absent}
 use Rattle.layout.specs.Rows.{set_all}
 use Rattle.layout.proofs.WriteLaws.{length_all}
 use Rattle.kept.specs.Walks.{with_of}
@@ -19,6 +17,7 @@ use Rattle.resolve.specs.Chain.{Outer}
 use Rattle.resolve.specs.Withs.{Room, WroteOne, Lists}
 use Rattle.resolve.proofs.ChainLaws.{chain_here}
 use Rattle.resolve.proofs.WithLaws.{with_is, with_none, Around, around, around_last, around_next}
+use Rattle.std.specs.Prelude as rust
 
 -- ---- one scope
 module _ (k : ScopeKind) (n m : ℕ) (b : List ℕ) where
@@ -72,12 +71,12 @@ module _ {scopes : List Scope} {a left i : ℕ} {b₀ : List ℕ} {n m : ℕ} {b
         let e : 4 * (n - m) + 4 * length (if_with (scope_at scopes i).kind) ≡ 4 * (n - r) = omega (arith, one.left, w.part) in
         set_both b (4 * (n - m)) (if_with (scope_at scopes i).kind) ys ∙ rw (← one.wrote, e)
 
-    module _ {next : MaybeScope} (o : Outer scopes i left next) where
-      pub writing_done : next ≡ Absent → c ≡ set_all b₀ 0 (withs_of scopes (chain scopes a))
+    module _ {next : rust.Option ScopeId} (o : Outer scopes i left next) where
+      pub writing_done : next ≡ rust.None → c ≡ set_all b₀ 0 (withs_of scopes (chain scopes a))
       unfolding set_all
       writing_done q = sym (ap (set_all b₀ 0) (around scopes a) ∙ w.rest ∙ ap (set_all b (4 * (n - m))) (around_last scopes o q) ∙ split [])
 
-      pub writing_on : {p : ScopeId} → next ≡ Inside p → Writing scopes a (left - 1) p.0 b₀ n r c
+      pub writing_on : {p : ScopeId} → next ≡ rust.Some p → Writing scopes a (left - 1) p.0 b₀ n r c
       writing_on {p} q =
           let e : length (Around scopes left i) ≡ length (if_with (scope_at scopes i).kind) + length (Around scopes (left - 1) p.0) = ap length (around_next scopes o q) ∙ length-append (if_with (scope_at scopes i).kind) (Around scopes (left - 1) p.0) in
           record {

@@ -5,14 +5,15 @@ use Rattle.spec.specs.Basics.{Text, NameId, ScopeId}
 use Rattle.spec.specs.Scopes.{Scope}
 use Rattle.spec.specs.Answer.{chain_to, innermost}
 use Rattle.module.specs.Ids.{scope_of}
-use Rattle.resolve.specs.declared.search.Found.{Found}
-use Rattle.resolve.specs.declared.search.Found.TheVariants.{In, Nowhere}
 use Rattle.resolve.specs.declared.search.Step.{Step}
 use Rattle.resolve.specs.declared.search.Step.TheVariants.{Here, On}
+use Rattle.module.specs.declared.ids.ScopeId as rust_scope_id
+use Rattle.module.specs.declared.ids.NameId as rust_name_id
+use Rattle.std.specs.Prelude as rust
 
-unfoldable pub found_of : Found → Option (ScopeId × NameId)
-found_of (In s x) = some (s.0, x.0)
-found_of Nowhere = none
+unfoldable pub found_of : rust.Option (rust_scope_id.ScopeId × rust_name_id.NameId) → Option (ScopeId × NameId)
+found_of (rust.Some (s, x)) = some (s.0, x.0)
+found_of rust.None = none
 
 module _ (text_of : NameId → Text) (scopes : List Scope) (t : Text) where
   -- what is left to be found after a step at the scope i

@@ -17,7 +17,7 @@ ghost use Rattle.kept.specs.Walks.{names_entered};
 ghost use Rattle.resolve.specs.Definitions.{only_with};
 
 use kept::{entered_at, entered_count};
-use module::{MaybeName, NameId, ScopeId};
+use module::{NameId, ScopeId};
 use rows::{name_count, name_text};
 use texts::text_is;
 use words::equal_to;
@@ -37,23 +37,30 @@ fn name_is(store: &[u8], y: NameId, sought: &[u8], x: NameId, text: &[u8]) -> bo
 }
 
 // The i-th name entered in a scope, where it has the sought text.
-fn entered_as(store: &[u8], s: ScopeId, i: u32, sought: &[u8], x: NameId, text: &[u8]) -> MaybeName
+fn entered_as(
+    store: &[u8],
+    s: ScopeId,
+    i: u32,
+    sought: &[u8],
+    x: NameId,
+    text: &[u8],
+) -> Option<NameId>
     requires { Long store.now }
     ensures { name_of result ≡ only_with (text_of_name (set_name x.0 text.now (module_in store.now))) sought.now (get_elem? (names_entered (scope_at (scopes_in store.now).scopes s.0).kind) i) }
 {
     match entered_at(store, s, i) {
-        MaybeName::Name(y) => {
+        Some(y) => {
             if name_is(store, y, sought, x, text) {
-                MaybeName::Name(y)
+                Some(y)
             } else {
-                MaybeName::Absent
+                None
             }
         }
-        MaybeName::Absent => MaybeName::Absent,
+        None => None,
     }
 }
 
-pub fn defined_in(store: &[u8], s: ScopeId, sought: &[u8], x: NameId, text: &[u8]) -> MaybeName
+pub fn defined_in(store: &[u8], s: ScopeId, sought: &[u8], x: NameId, text: &[u8]) -> Option<NameId>
     requires { Long store.now }
     ensures { name_of result ≡ defined_in (text_of_name (set_name x.0 text.now (module_in store.now))) sought.now (scope_at (scopes_in store.now).scopes s.0).kind }
 {
@@ -61,9 +68,9 @@ pub fn defined_in(store: &[u8], s: ScopeId, sought: &[u8], x: NameId, text: &[u8
     let mut i: u32 = 0;
     while i < n {
         i += 1;
-        if let MaybeName::Name(y) = entered_as(store, s, n - i, sought, x, text) {
-            return MaybeName::Name(y);
+        if let Some(y) = entered_as(store, s, n - i, sought, x, text) {
+            return Some(y);
         }
     }
-    MaybeName::Absent
+    None
 }

@@ -20,6 +20,6 @@ pub use definitions::defined_in;
 pub use names::{resolve_as, resolve_name, resolve_renamed};
 pub use nesting::within;
 pub use references::list_kept_references;
-pub use search::{Found, innermost};
+pub use search::innermost;
 pub use with_list::list_withs;
 pub use withs::has_with;

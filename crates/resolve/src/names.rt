@@ -12,33 +12,33 @@ ghost use Rattle.builtins.specs.Lookup.{builtin_of};
 ghost use Rattle.resolve.specs.Search.{found_of};
 ghost use Rattle.resolve.specs.Names.{unhidden, bound_or};
 
-use crate::search::{Found, innermost};
+use crate::search::innermost;
 use crate::withs::has_with;
 use answer::Answer;
 use builtins::{MaybeBuiltin, lookup_global_builtin};
 use kept::scope_of;
 use layout::tables::ABSENT;
-use module::{ExprId, MaybeScope, NameId, ScopeId, TextId};
+use module::{ExprId, NameId, ScopeId, TextId};
 use texts::text_span;
 
 // The built-in name that a text is, where no definition hides it.
-fn unhidden_builtin(found: Found, sought: &[u8]) -> MaybeBuiltin
+fn unhidden_builtin(found: Option<(ScopeId, NameId)>, sought: &[u8]) -> MaybeBuiltin
     ensures { builtin_of result ≡ unhidden (found_of found) (index_from 0 sought.now builtins) }
 {
     match found {
-        Found::In(_, _) => MaybeBuiltin::Absent,
-        Found::Nowhere => lookup_global_builtin(sought),
+        Some((_, _)) => MaybeBuiltin::Absent,
+        None => lookup_global_builtin(sought),
     }
 }
 
 // The definition that was found, or else the Withs around the scope.
-fn bound_or_withs(store: &[u8], s: ScopeId, found: Found) -> Answer
+fn bound_or_withs(store: &[u8], s: ScopeId, found: Option<(ScopeId, NameId)>) -> Answer
     requires { Long store.now }
     ensures { answer_with result (withs_of (scopes_in store.now).scopes (chain (scopes_in store.now).scopes s.0)) ≡ bound_or (found_of found) (withs_of (scopes_in store.now).scopes (chain (scopes_in store.now).scopes s.0)) }
 {
     match found {
-        Found::In(_, x) => Answer::Definition(x),
-        Found::Nowhere => {
+        Some((_, x)) => Answer::Definition(x),
+        None => {
             if has_with(store, s) {
                 Answer::Withs
             } else {
@@ -66,8 +66,8 @@ pub fn resolve_as(store: &[u8], e: ExprId, sought: &[u8], x: NameId, text: &[u8]
     ensures { answer_with result (withs_at (scopes_in store.now) e.0) ≡ answer_at (text_of_name (set_name x.0 text.now (module_in store.now))) (scopes_in store.now).scopes sought.now (scope_of_expr (scopes_in store.now) e.0) }
 {
     match scope_of(store, e) {
-        MaybeScope::Scope(s) => resolve_in(store, s, sought, x, text),
-        MaybeScope::Absent => Answer::Unresolved,
+        Some(s) => resolve_in(store, s, sought, x, text),
+        None => Answer::Unresolved,
     }
 }
 

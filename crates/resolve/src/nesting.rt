@@ -8,7 +8,7 @@ ghost use Rattle.layout.specs.Layout.{Long};
 ghost use Rattle.layout.specs.Keeps.{scopes_in};
 
 use crate::chain::outer;
-use module::{MaybeScope, ScopeId};
+use module::ScopeId;
 
 // Whether `held` is s or a scope around it.
 fn surrounds(store: &[u8], held: ScopeId, s: ScopeId) -> bool
@@ -21,7 +21,7 @@ fn surrounds(store: &[u8], held: ScopeId, s: ScopeId) -> bool
         if held.0 == at {
             return true;
         }
-        let MaybeScope::Scope(p) = outer(store, ScopeId(at), left) else {
+        let Some(p) = outer(store, ScopeId(at), left) else {
             return false;
         };
         at = p.0;
@@ -30,14 +30,14 @@ fn surrounds(store: &[u8], held: ScopeId, s: ScopeId) -> bool
 }
 
 // What has no scope is within none, and nothing is within no scope.
-pub fn within(store: &[u8], held: MaybeScope, s: MaybeScope) -> bool
+pub fn within(store: &[u8], held: Option<ScopeId>, s: Option<ScopeId>) -> bool
     requires { Long store.now }
     ensures { result ≡ moved.within (scopes_in store.now) (scope_of held) (scope_of s) }
 {
-    let MaybeScope::Scope(h) = held else {
+    let Some(h) = held else {
         return false;
     };
-    let MaybeScope::Scope(i) = s else {
+    let Some(i) = s else {
         return false;
     };
     surrounds(store, h, i)

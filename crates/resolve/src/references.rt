@@ -8,7 +8,7 @@ ghost use Rattle.resolve.specs.Withs.{Lists};
 
 use kept::{reference_at, reference_count};
 use layout::wide;
-use module::{MaybeExpr, NameId};
+use module::{ExprId, NameId};
 use words::put32;
 
 // Writes all n of them.
@@ -18,7 +18,7 @@ fn write_references(store: &[u8], x: NameId, buffer: &mut [u8], n: u32)
 {
     let mut i: u32 = 0;
     while i < n {
-        let MaybeExpr::Expr(e) = reference_at(store, x, i) else {
+        let Some(e) = reference_at(store, x, i) else {
             return;
         };
         put32(buffer, 4 * wide(i), e.0);

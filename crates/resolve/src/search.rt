@@ -12,20 +12,13 @@ ghost use Rattle.resolve.specs.Search.{found_of, Looks};
 use crate::chain::outer;
 use crate::definitions::defined_in;
 use kept::scope_with;
-use module::{MaybeExpr, MaybeName, MaybeScope, NameId, ScopeId};
-
-// A definition, and the scope that has it.
-#[derive(Clone, Copy)]
-pub enum Found {
-    In(ScopeId, NameId),
-    Nowhere,
-}
+use module::{ExprId, NameId, ScopeId};
 
 // What the search comes to at one scope: the definition there, or the scope to go on with.
 #[derive(Clone, Copy)]
 pub enum Step {
     Here(NameId),
-    On(MaybeScope),
+    On(Option<ScopeId>),
 }
 
 // What a With brings hides no definition, so that the search goes on outside of it.
@@ -35,15 +28,21 @@ fn look(store: &[u8], s: ScopeId, left: u32, sought: &[u8], x: NameId, text: &[u
 {
     let outside = outer(store, s, left);
     match scope_with(store, s) {
-        MaybeExpr::Expr(_) => Step::On(outside),
-        MaybeExpr::Absent => match defined_in(store, s, sought, x, text) {
-            MaybeName::Name(y) => Step::Here(y),
-            MaybeName::Absent => Step::On(outside),
+        Some(_) => Step::On(outside),
+        None => match defined_in(store, s, sought, x, text) {
+            Some(y) => Step::Here(y),
+            None => Step::On(outside),
         },
     }
 }
 
-pub fn innermost(store: &[u8], s: ScopeId, sought: &[u8], x: NameId, text: &[u8]) -> Found
+pub fn innermost(
+    store: &[u8],
+    s: ScopeId,
+    sought: &[u8],
+    x: NameId,
+    text: &[u8],
+) -> Option<(ScopeId, NameId)>
     requires { Long store.now }
     ensures { found_of result ≡ answer.innermost (text_of_name (set_name x.0 text.now (module_in store.now))) (scopes_in store.now).scopes sought.now (chain (scopes_in store.now).scopes s.0) }
 {
@@ -52,15 +51,15 @@ pub fn innermost(store: &[u8], s: ScopeId, sought: &[u8], x: NameId, text: &[u8]
     loop {
         match look(store, ScopeId(at), left, sought, x, text) {
             Step::Here(y) => {
-                return Found::In(ScopeId(at), y);
+                return Some((ScopeId(at), y));
             }
             Step::On(next) => match next {
-                MaybeScope::Scope(p) => {
+                Some(p) => {
                     at = p.0;
                     left -= 1;
                 }
-                MaybeScope::Absent => {
-                    return Found::Nowhere;
+                None => {
+                    return None;
                 }
             },
         }

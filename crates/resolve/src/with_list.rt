@@ -11,7 +11,7 @@ use crate::chain::outer;
 use crate::withs::count_withs;
 use kept::{scope_of, scope_with};
 use layout::wide;
-use module::{ExprId, MaybeExpr, MaybeScope, ScopeId};
+use module::{ExprId, ScopeId};
 use words::put32;
 
 // Of n Withs the last m are still to be written. Writes that of a scope, where it has one, and says how many are left.
@@ -20,11 +20,11 @@ fn write_own(store: &[u8], s: ScopeId, buffer: &mut [u8], n: usize, m: usize) ->
     ensures { WroteOne (scope_at (scopes_in store.now).scopes s.0).kind n m buffer.old result buffer.new }
 {
     match scope_with(store, s) {
-        MaybeExpr::Expr(e) => {
+        Some(e) => {
             put32(buffer, 4 * (n - m), e.0);
             m - 1
         }
-        MaybeExpr::Absent => m,
+        None => m,
     }
 }
 
@@ -38,7 +38,7 @@ fn write_withs(store: &[u8], s: ScopeId, buffer: &mut [u8], n: usize)
     let mut m = n;
     loop {
         m = write_own(store, ScopeId(at), buffer, n, m);
-        let MaybeScope::Scope(p) = outer(store, ScopeId(at), left) else {
+        let Some(p) = outer(store, ScopeId(at), left) else {
             return;
         };
         at = p.0;
@@ -51,7 +51,7 @@ pub fn list_withs(store: &[u8], e: ExprId, buffer: &mut [u8]) -> u32
     requires { Long store.now }
     ensures { Lists (withs_at (scopes_in store.now) e.0) buffer.old result buffer.new }
 {
-    let MaybeScope::Scope(s) = scope_of(store, e) else {
+    let Some(s) = scope_of(store, e) else {
         return 0;
     };
     let count = count_withs(store, s);

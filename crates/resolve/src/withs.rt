@@ -7,7 +7,7 @@ ghost use Rattle.resolve.specs.Withs.{some_of};
 
 use crate::chain::outer;
 use kept::{scope_count, scope_with};
-use module::{MaybeExpr, MaybeScope, ScopeId};
+use module::{ExprId, ScopeId};
 
 // Whether there is one.
 pub fn has_with(store: &[u8], s: ScopeId) -> bool
@@ -17,10 +17,10 @@ pub fn has_with(store: &[u8], s: ScopeId) -> bool
     let mut at = s.0;
     let mut left = s.0;
     loop {
-        if let MaybeExpr::Expr(_) = scope_with(store, ScopeId(at)) {
+        if let Some(_) = scope_with(store, ScopeId(at)) {
             return true;
         }
-        let MaybeScope::Scope(p) = outer(store, ScopeId(at), left) else {
+        let Some(p) = outer(store, ScopeId(at), left) else {
             return false;
         };
         at = p.0;
@@ -34,8 +34,8 @@ fn own_withs(store: &[u8], s: ScopeId) -> u32
     ensures { result ≡ length (if_with (scope_at (scopes_in store.now).scopes s.0).kind) }
 {
     match scope_with(store, s) {
-        MaybeExpr::Expr(_) => 1,
-        MaybeExpr::Absent => 0,
+        Some(_) => 1,
+        None => 0,
     }
 }
 
@@ -52,7 +52,7 @@ pub fn count_withs(store: &[u8], s: ScopeId) -> u32
     let mut n: u32 = 0;
     loop {
         n += own_withs(store, ScopeId(at));
-        let MaybeScope::Scope(p) = outer(store, ScopeId(at), left) else {
+        let Some(p) = outer(store, ScopeId(at), left) else {
             return n;
         };
         at = p.0;

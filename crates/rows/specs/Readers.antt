@@ -4,13 +4,13 @@ use Rattle.std.proofs.Math.Option.{Option, none, some}
 use Rattle.spec.specs.Basics.{ExprId}
 use Rattle.spec.specs.Module.{Pointer, DuplicateKey, Module}
 use Rattle.module.specs.Ids.{pointer_of}
-use Rattle.rows.specs.declared.read_exprs.MaybePointer.{MaybePointer}
-use Rattle.rows.specs.declared.read_exprs.MaybePointer.TheVariants as maybe_pointer
 use Rattle.rows.specs.declared.read_exprs.Items.{Items}
 use Rattle.layout.specs.Layout.{item_limit}
 use Rattle.layout.specs.Rows.{rows_to}
 use Rattle.layout.specs.Exprs.{Item, child, item_in, items_of}
 use Rattle.layout.specs.States.{exprs_of}
+use Rattle.module.specs.declared.pointer.Pointer as rust_pointer
+use Rattle.std.specs.Prelude as rust
 
 -- ---- expressions; those out of range are the definitions' `expr_at` and `made_at`
 -- the items of an expression, and none out of range
@@ -20,9 +20,9 @@ items_at_expr s e = if ltb e (length (exprs_of s)) then items_of s e else []
 unfoldable pub item_at_expr : List ℕ → ExprId → ℕ → Item
 item_at_expr s e i = get_or (items_at_expr s e) i (child 0)
 
-unfoldable pub maybe_pointer_of : MaybePointer → Option Pointer
-maybe_pointer_of (maybe_pointer.Pointer p) = some (pointer_of p)
-maybe_pointer_of maybe_pointer.Absent = none
+unfoldable pub maybe_pointer_of : rust.Option rust_pointer.Pointer → Option Pointer
+maybe_pointer_of (rust.Some p) = some (pointer_of p)
+maybe_pointer_of rust.None = none
 
 -- the items of e are those in the table from `first` on, `count` of them
 pub record Covers (s : List ℕ) (e : ExprId) (x : Items) : Type 0 where

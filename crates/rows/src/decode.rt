@@ -6,8 +6,7 @@ ghost use Rattle.layout.specs.Exprs as rows;
 
 use crate::row::{ItemRow, Row};
 use module::{
-    BindingValue, Expr, ExprId, Item, Literal, MaybeExpr, MaybeName, NameId, Pattern, TextId,
-    float_of, integer_of,
+    BindingValue, Expr, ExprId, Item, Literal, NameId, Pattern, TextId, float_of, integer_of,
 };
 
 // Two words as one number, the higher first.
@@ -47,7 +46,7 @@ pub fn expr_of(row: Row) -> Expr
     ensures { Reads row result }
 {
     let sort = row.sort;
-    let x = MaybeName::Name(NameId(row.b));
+    let x = Some(NameId(row.b));
     let body = ExprId(row.a);
     match sort {
         0 | 1 => Expr::Missing,
@@ -58,11 +57,11 @@ pub fn expr_of(row: Row) -> Expr
         6 => Expr::Literal(Literal::Text(TextId(row.a))),
         7 => Expr::Literal(Literal::Path(TextId(row.a))),
         8 => Expr::Literal(Literal::Uri),
-        9 => Expr::Lambda(MaybeName::Absent, Pattern::Absent, body),
+        9 => Expr::Lambda(None, Pattern::Absent, body),
         10 => Expr::Lambda(x, Pattern::Absent, body),
-        11 => Expr::Lambda(MaybeName::Absent, Pattern::Closed, body),
+        11 => Expr::Lambda(None, Pattern::Closed, body),
         12 => Expr::Lambda(x, Pattern::Closed, body),
-        13 => Expr::Lambda(MaybeName::Absent, Pattern::Ellipsis, body),
+        13 => Expr::Lambda(None, Pattern::Ellipsis, body),
         14 => Expr::Lambda(x, Pattern::Ellipsis, body),
         15 => Expr::LetIn(body),
         16 => Expr::List,
@@ -71,8 +70,8 @@ pub fn expr_of(row: Row) -> Expr
         19 => Expr::AttrSet(true),
         20 => Expr::UnaryOp(row.a, ExprId(row.b)),
         21 => Expr::Reference(TextId(row.a)),
-        22 => Expr::Select(ExprId(row.a), MaybeExpr::Absent),
-        23 => Expr::Select(ExprId(row.a), MaybeExpr::Expr(ExprId(row.b))),
+        22 => Expr::Select(ExprId(row.a), None),
+        23 => Expr::Select(ExprId(row.a), Some(ExprId(row.b))),
         24 => Expr::HasAttr(ExprId(row.a)),
         25 => Expr::With(ExprId(row.a), ExprId(row.b)),
         26 => Expr::Assert(ExprId(row.a), ExprId(row.b)),
@@ -90,10 +89,10 @@ pub fn item_of(row: ItemRow) -> Item
     match tag {
         0 => Item::Child(ExprId(row.a)),
         1 => Item::Text(TextId(row.a)),
-        2 => Item::Field(MaybeName::Absent, MaybeExpr::Absent),
-        3 => Item::Field(MaybeName::Name(x), MaybeExpr::Absent),
-        4 => Item::Field(MaybeName::Absent, MaybeExpr::Expr(e)),
-        5 => Item::Field(MaybeName::Name(x), MaybeExpr::Expr(e)),
+        2 => Item::Field(None, None),
+        3 => Item::Field(Some(x), None),
+        4 => Item::Field(None, Some(e)),
+        5 => Item::Field(Some(x), Some(e)),
         6 => Item::Static(x, BindingValue::Expr(e)),
         7 => Item::Static(x, BindingValue::Inherit(e)),
         8 => Item::Static(x, BindingValue::InheritFrom(e)),

@@ -14,18 +14,11 @@ use crate::read_counts::expr_count;
 use crate::row::{ItemRow, Row};
 use layout::tables::{EXPR_POINTERS, EXPR_ROW, EXPRS, ITEM_LIMIT, ITEM_ROW, ITEMS, POINTER_ROW};
 use layout::{at_most, get_pointer, wide};
-use module::{Expr, ExprId, Item, MaybeText, Pointer, TextId};
+use module::{Expr, ExprId, Item, Pointer, TextId};
 use words::get32;
 
 // The sort of a Reference.
 pub const REFERENCE: u32 = 21;
-
-// A Missing may have no pointer.
-#[derive(Clone, Copy)]
-pub enum MaybePointer {
-    Pointer(Pointer),
-    Absent,
-}
 
 // Where the items of an expression lie in their table, and how many there are.
 #[derive(Clone, Copy)]
@@ -52,33 +45,33 @@ pub fn read_expr(store: &[u8], e: ExprId) -> Expr
     })
 }
 
-pub fn expr_pointer(store: &[u8], e: ExprId) -> MaybePointer
+pub fn expr_pointer(store: &[u8], e: ExprId) -> Option<Pointer>
     requires { Long store.now }
     ensures { maybe_pointer_of result ≡ (made_at (module_in store.now) e.0).pointer }
 {
     let n = e.0;
     if expr_count(store) <= n {
-        return MaybePointer::Absent;
+        return None;
     }
     if get32(store, EXPRS + EXPR_ROW * wide(n) + 4) == 0 {
-        return MaybePointer::Absent;
+        return None;
     }
-    MaybePointer::Pointer(get_pointer(store, EXPR_POINTERS + POINTER_ROW * wide(n)))
+    Some(get_pointer(store, EXPR_POINTERS + POINTER_ROW * wide(n)))
 }
 
 // The text of a Reference; none of an expression that is no Reference.
-pub fn reference_text(store: &[u8], e: ExprId) -> MaybeText
+pub fn reference_text(store: &[u8], e: ExprId) -> Option<TextId>
     requires { Long store.now }
     ensures { maybe_text store.now result ≡ reference_text (expr_at (module_in store.now) e.0) }
 {
     let n = e.0;
     if expr_count(store) <= n {
-        return MaybeText::Absent;
+        return None;
     }
     if get32(store, EXPRS + EXPR_ROW * wide(n) + 4) != REFERENCE {
-        return MaybeText::Absent;
+        return None;
     }
-    MaybeText::Text(TextId(get32(store, EXPRS + EXPR_ROW * wide(n) + 8)))
+    Some(TextId(get32(store, EXPRS + EXPR_ROW * wide(n) + 8)))
 }
 
 // They end where those of the next row begin.

@@ -10,7 +10,7 @@ ghost use Rattle.layout.specs.States.{module_in};
 use crate::read_counts::{expr_count, name_count};
 use layout::tables::{EXPR_POINTERS, EXPR_ROW, EXPRS, NAME_POINTERS, POINTER_ROW};
 use layout::wide;
-use module::{ExprId, MaybeExpr, MaybeName, NameId, Pointer};
+use module::{ExprId, NameId, Pointer};
 use words::get32;
 
 // Whether the pointer whose row is at `at` is p.
@@ -35,7 +35,7 @@ fn expr_points(store: &[u8], n: ExprId, p: Pointer) -> bool
     same_pointer(store, EXPR_POINTERS + POINTER_ROW * wide(n.0), p)
 }
 
-pub fn expr_for_node(store: &[u8], p: Pointer) -> MaybeExpr
+pub fn expr_for_node(store: &[u8], p: Pointer) -> Option<ExprId>
     requires { Long store.now }
     ensures { expr_of result ≡ expr_for_node (module_in store.now) (pointer_of p) }
 {
@@ -43,13 +43,13 @@ pub fn expr_for_node(store: &[u8], p: Pointer) -> MaybeExpr
     while 0 < n {
         n -= 1;
         if expr_points(store, ExprId(n), p) {
-            return MaybeExpr::Expr(ExprId(n));
+            return Some(ExprId(n));
         }
     }
-    MaybeExpr::Absent
+    None
 }
 
-pub fn name_for_node(store: &[u8], p: Pointer) -> MaybeName
+pub fn name_for_node(store: &[u8], p: Pointer) -> Option<NameId>
     requires { Long store.now }
     ensures { name_of result ≡ name_for_node (module_in store.now) (pointer_of p) }
 {
@@ -57,8 +57,8 @@ pub fn name_for_node(store: &[u8], p: Pointer) -> MaybeName
     while 0 < n {
         n -= 1;
         if same_pointer(store, NAME_POINTERS + POINTER_ROW * wide(n), p) {
-            return MaybeName::Name(NameId(n));
+            return Some(NameId(n));
         }
     }
-    MaybeName::Absent
+    None
 }

@@ -17,9 +17,6 @@ use Rattle.spec.specs.Scopes.{Walk, place_expr, open_scope, with_expr, one_or_no
 use Rattle.spec.proofs.sound.Ordered.{Ordered}
 use Rattle.spec.proofs.sound.Walk.{as_agree, walk_step, walked_below}
 use Rattle.module.specs.declared.ids.ExprId as code_id
-use Rattle.module.specs.declared.ids.MaybeExpr as code_maybe
-use Rattle.module.specs.declared.ids.MaybeExpr.TheVariants as maybe_expr
-use Rattle.module.specs.declared.ids.MaybeName as code_name
 use Rattle.module.specs.declared.expr.Pattern.{Pattern}
 use Rattle.module.specs.declared.expr.Expr as code
 use Rattle.module.specs.declared.expr.Expr.TheVariants as code_expr
@@ -40,6 +37,8 @@ use Rattle.scopes.proofs.Growth.{as_grows, grows_then, grows_each, grows_open, b
 use Rattle.scopes.proofs.Steps.{walks_then, walks_inside, walks_ordered, walks_as, follows_none, follows_then, one_child}
 use Rattle.scopes.proofs.ItemLaws.{interpolated_children}
 use Rattle.scopes.proofs.OpenLaws.{placed, with_opened}
+use Rattle.module.specs.declared.ids.NameId as rust_name_id
+use Rattle.std.specs.Prelude as rust
 
 -- an expression that there is no row for is Missing
 with_known : (u : List ℕ) (e a b : ExprId) → expr_at (module_in u) e ≡ with_in a b → e < expr_limit
@@ -124,16 +123,16 @@ module _ (e : ExprId) {scope : ScopeId} {s u : List ℕ} (r : code.Expr) (put : 
   unfolding expr_with form picked
   path_arm q x = through_form (children (items_at_expr u e)) (rw q (ap through (interpolated_children (items_at_expr u e)))) x
 
-  pub select_arm : {a : code_id.ExprId} {d : code_maybe.MaybeExpr} {t : List ℕ} → r ≡ code_expr.Select a d → Follows e scope (a.0 ∷ (children (items_at_expr u e) ++ one_or_none (expr_of d))) u t → Walks scope (λ m. traverse_expr m scope e) s tt t
+  pub select_arm : {a : code_id.ExprId} {d : rust.Option code_id.ExprId} {t : List ℕ} → r ≡ code_expr.Select a d → Follows e scope (a.0 ∷ (children (items_at_expr u e) ++ one_or_none (expr_of d))) u t → Walks scope (λ m. traverse_expr m scope e) s tt t
   unfolding expr_with form
   select_arm q x = through_form _ (rw q) x
 
-  pub has_arm : {a : code_id.ExprId} {t : List ℕ} → r ≡ code_expr.HasAttr a → Follows e scope (a.0 ∷ (children (items_at_expr u e) ++ one_or_none (expr_of maybe_expr.Absent))) u t → Walks scope (λ m. traverse_expr m scope e) s tt t
+  pub has_arm : {a : code_id.ExprId} {t : List ℕ} → r ≡ code_expr.HasAttr a → Follows e scope (a.0 ∷ (children (items_at_expr u e) ++ one_or_none (expr_of rust.None))) u t → Walks scope (λ m. traverse_expr m scope e) s tt t
   unfolding expr_with form expr_of one_or_none
   has_arm {a} {t} q x = through_form (a.0 ∷ children (items_at_expr u e)) (rw q) (subst (λ (cs : List ExprId). Follows e scope (a.0 ∷ cs) u t) (append-nil (children (items_at_expr u e))) x)
 
   -- ---- forms that may open a scope
-  pub lambda_arm : {x : code_name.MaybeName} {p : Pattern} {b : code_id.ExprId} {t : List ℕ} → r ≡ code_expr.Lambda x p b
+  pub lambda_arm : {x : rust.Option rust_name_id.NameId} {p : Pattern} {b : code_id.ExprId} {t : List ℕ} → r ≡ code_expr.Lambda x p b
       → Walks scope (λ m. traverse_lambda m (below m e) (name_of x) (pattern_with p (items_at_expr u e)) b.0 scope) u tt t → Walks scope (λ m. traverse_expr m scope e) s tt t
   unfolding expr_with form traverse_as
   lambda_arm {x} {p} {b} q y = by_form (function (name_of x) (pattern_with p (items_at_expr u e)) b.0) (rw q) y

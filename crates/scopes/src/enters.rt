@@ -14,7 +14,7 @@ ghost use Rattle.scopes.specs.Walking.{Walks};
 ghost use Rattle.scopes.specs.Entering.{entered, Enters, try_for};
 
 use kept::{enter_name, open_scope};
-use module::{ExprId, Item, MaybeName, NameKind, Pattern, ScopeId};
+use module::{ExprId, Item, NameId, NameKind, Pattern, ScopeId};
 use rows::{item_count, name_kind_of, read_item};
 
 // Which names of its items an expression enters.
@@ -39,40 +39,40 @@ fn is_definition(kind: NameKind) -> bool
     }
 }
 
-fn field_name(store: &[u8], e: ExprId, i: u32) -> MaybeName
+fn field_name(store: &[u8], e: ExprId, i: u32) -> Option<NameId>
     requires { Long store.now }
     ensures { one_or_none (name_of result) ≡ entered names_of.Fields (module_in store.now) (item_at_expr store.now e.0 i ∷ []) }
 {
     match read_item(store, e, i) {
-        Item::Child(_) => MaybeName::Absent,
-        Item::Text(_) => MaybeName::Absent,
+        Item::Child(_) => None,
+        Item::Text(_) => None,
         Item::Field(x, _) => x,
-        Item::Static(_, _) => MaybeName::Absent,
-        Item::Dynamic(_, _) => MaybeName::Absent,
+        Item::Static(_, _) => None,
+        Item::Dynamic(_, _) => None,
     }
 }
 
-fn defined_name(store: &[u8], e: ExprId, i: u32) -> MaybeName
+fn defined_name(store: &[u8], e: ExprId, i: u32) -> Option<NameId>
     requires { Long store.now }
     ensures { one_or_none (name_of result) ≡ entered names_of.Definitions (module_in store.now) (item_at_expr store.now e.0 i ∷ []) }
 {
     match read_item(store, e, i) {
-        Item::Child(_) => MaybeName::Absent,
-        Item::Text(_) => MaybeName::Absent,
-        Item::Field(_, _) => MaybeName::Absent,
+        Item::Child(_) => None,
+        Item::Text(_) => None,
+        Item::Field(_, _) => None,
         Item::Static(x, _) => {
             if is_definition(name_kind_of(store, x)) {
-                MaybeName::Name(x)
+                Some(x)
             } else {
-                MaybeName::Absent
+                None
             }
         }
-        Item::Dynamic(_, _) => MaybeName::Absent,
+        Item::Dynamic(_, _) => None,
     }
 }
 
 // The name that the item with the number i of the expression e enters.
-fn name_entered(store: &[u8], e: ExprId, i: u32, names: Names) -> MaybeName
+fn name_entered(store: &[u8], e: ExprId, i: u32, names: Names) -> Option<NameId>
     requires { Long store.now }
     ensures { one_or_none (name_of result) ≡ entered names (module_in store.now) (item_at_expr store.now e.0 i ∷ []) }
 {
@@ -83,16 +83,16 @@ fn name_entered(store: &[u8], e: ExprId, i: u32, names: Names) -> MaybeName
 }
 
 // After the first n names one more waits, if there is one; how many wait then.
-fn enter_maybe(store: &mut [u8], n: u32, x: MaybeName) -> u32
+fn enter_maybe(store: &mut [u8], n: u32, x: Option<NameId>) -> u32
     requires { Long store.old × (n ≤ 65536) }
     ensures { Enters n (one_or_none (name_of x)) store.old result store.new }
 {
     match x {
-        MaybeName::Name(y) => {
+        Some(y) => {
             enter_name(store, n, y);
             n + 1
         }
-        MaybeName::Absent => n,
+        None => n,
     }
 }
 
@@ -139,7 +139,7 @@ fn open_for(store: &mut [u8], n: u32, scope: ScopeId) -> ScopeId
 pub fn open_for_lambda(
     store: &mut [u8],
     e: ExprId,
-    x: MaybeName,
+    x: Option<NameId>,
     p: Pattern,
     scope: ScopeId,
 ) -> ScopeId

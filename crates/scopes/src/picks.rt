@@ -8,7 +8,7 @@ ghost use Rattle.rows.specs.Readers.{item_at_expr};
 ghost use Rattle.scopes.specs.declared.picks.Pass.TheVariants as pass_of;
 ghost use Rattle.scopes.specs.Picking.{picks_of, picked};
 
-use module::{BindingValue, ExprId, Item, MaybeExpr};
+use module::{BindingValue, ExprId, Item};
 use rows::read_item;
 
 #[derive(Clone, Copy)]
@@ -33,12 +33,12 @@ pub enum Picks {
 }
 
 // An expression that may be absent.
-pub fn maybe(e: MaybeExpr) -> Picks
+pub fn maybe(e: Option<ExprId>) -> Picks
     ensures { picks_of result ≡ one_or_none (expr_of e) }
 {
     match e {
-        MaybeExpr::Expr(c) => Picks::One(c),
-        MaybeExpr::Absent => Picks::Nothing,
+        Some(c) => Picks::One(c),
+        None => Picks::Nothing,
     }
 }
 

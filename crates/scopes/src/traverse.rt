@@ -15,7 +15,7 @@ ghost use Rattle.scopes.specs.Walking.{below, Walks, Follows};
 use crate::enters::{open_for_bindings, open_for_lambda};
 use crate::picks::{Pass, Picks, maybe, pick_item};
 use kept::{open_with, place_expr};
-use module::{Expr, ExprId, MaybeExpr, MaybeName, Pattern, ScopeId};
+use module::{Expr, ExprId, NameId, Pattern, ScopeId};
 use rows::{item_count, read_expr};
 
 // The expression e stands in the scope, and so do its children, but for those in a scope that it opens.
@@ -47,7 +47,7 @@ pub fn traverse_expr(store: &mut [u8], e: ExprId, scope: ScopeId)
         Expr::UnaryOp(_, x) => child(store, e, x, scope),
         Expr::Reference(_) => {}
         Expr::Select(s, d) => walk_path(store, e, s, d, scope),
-        Expr::HasAttr(s) => walk_path(store, e, s, MaybeExpr::Absent, scope),
+        Expr::HasAttr(s) => walk_path(store, e, s, None, scope),
         Expr::With(n, b) => {
             child(store, e, n, scope);
             let inside = open_with(store, scope, e);
@@ -75,7 +75,14 @@ fn traverse_bindings(store: &mut [u8], e: ExprId, scope: ScopeId) -> ScopeId
 
 // A function: defaults and body are walked inside.
 #[cycle(traversal)]
-fn traverse_lambda(store: &mut [u8], e: ExprId, x: MaybeName, p: Pattern, b: ExprId, scope: ScopeId)
+fn traverse_lambda(
+    store: &mut [u8],
+    e: ExprId,
+    x: Option<NameId>,
+    p: Pattern,
+    b: ExprId,
+    scope: ScopeId,
+)
     requires { Long store.old }
     ensures { Walks scope.0 (λ m. traverse_lambda m (below m e.0) (name_of x) (pattern_with p (items_at_expr store.old e.0)) b.0 scope.0) store.old tt store.new }
 {
@@ -99,7 +106,7 @@ fn walk_defaults(store: &mut [u8], e: ExprId, p: Pattern, scope: ScopeId)
 
 // The set, the path and the default of a Select; a HasAttr has no default.
 #[cycle(traversal)]
-fn walk_path(store: &mut [u8], e: ExprId, set: ExprId, d: MaybeExpr, scope: ScopeId)
+fn walk_path(store: &mut [u8], e: ExprId, set: ExprId, d: Option<ExprId>, scope: ScopeId)
     requires { Long store.old }
     ensures { Follows e.0 scope.0 (set.0 ∷ (children (items_at_expr store.old e.0) ++ one_or_none (expr_of d))) store.old store.new }
 {

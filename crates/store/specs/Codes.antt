@@ -7,10 +7,6 @@ use Rattle.module.specs.declared.expr.Expr.TheVariants.{Missing, Apply, IfThenEl
 use Rattle.module.specs.declared.expr.Pattern.{Pattern}
 use Rattle.module.specs.declared.expr.Pattern.TheVariants.{Absent, Closed, Ellipsis}
 use Rattle.module.specs.declared.expr.Item.{Item}
-use Rattle.module.specs.declared.ids.MaybeExpr.{MaybeExpr}
-use Rattle.module.specs.declared.ids.MaybeExpr.TheVariants as maybe_expr
-use Rattle.module.specs.declared.ids.MaybeName.{MaybeName}
-use Rattle.module.specs.declared.ids.MaybeName.TheVariants as maybe_name
 use Rattle.module.specs.declared.literal.Literal as code_literal
 use Rattle.module.specs.declared.literal.Literal.TheVariants as literals
 use Rattle.rows.specs.declared.row.Row.{Row}
@@ -19,6 +15,9 @@ use Rattle.rows.specs.Decoded.{expr_with, item_with}
 use Rattle.layout.specs.Texts.{text_in}
 use Rattle.layout.specs.Exprs as rows
 use Rattle.soundness.specs.Coded.{fields_coded, part_coded}
+use Rattle.module.specs.declared.ids.ExprId as rust_expr_id
+use Rattle.module.specs.declared.ids.NameId as rust_name_id
+use Rattle.std.specs.Prelude as rust
 
 -- ---- sorts
 unfoldable pub literal_sort : code_literal.Literal → ℕ
@@ -28,17 +27,17 @@ literal_sort (literals.Text t) = 6
 literal_sort (literals.Path t) = 7
 literal_sort literals.Uri = 8
 
-unfoldable pub lambda_sort : MaybeName → Pattern → ℕ
-lambda_sort maybe_name.Absent Absent = 9
-lambda_sort (maybe_name.Name x) Absent = 10
-lambda_sort maybe_name.Absent Closed = 11
-lambda_sort (maybe_name.Name x) Closed = 12
-lambda_sort maybe_name.Absent Ellipsis = 13
-lambda_sort (maybe_name.Name x) Ellipsis = 14
+unfoldable pub lambda_sort : rust.Option rust_name_id.NameId → Pattern → ℕ
+lambda_sort rust.None Absent = 9
+lambda_sort (rust.Some x) Absent = 10
+lambda_sort rust.None Closed = 11
+lambda_sort (rust.Some x) Closed = 12
+lambda_sort rust.None Ellipsis = 13
+lambda_sort (rust.Some x) Ellipsis = 14
 
-unfoldable pub select_sort : MaybeExpr → ℕ
-select_sort maybe_expr.Absent = 22
-select_sort (maybe_expr.Expr d) = 23
+unfoldable pub select_sort : rust.Option rust_expr_id.ExprId → ℕ
+select_sort rust.None = 22
+select_sort (rust.Some d) = 23
 
 -- the sort of an expression with a pointer
 unfoldable pub sort_for : Expr → ℕ

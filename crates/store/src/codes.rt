@@ -5,8 +5,8 @@ ghost use Rattle.store.specs.Codes.{Says, SaysItem};
 ghost use Rattle.module.specs.Literals.{Valid};
 
 use module::{
-    BindingValue, Expr, ExprId, Item, Literal, MaybeExpr, MaybeName, NameId, Pattern, TextId,
-    bits_of, float_of, integer_of, value_of,
+    BindingValue, Expr, ExprId, Item, Literal, NameId, Pattern, TextId, bits_of, float_of,
+    integer_of, value_of,
 };
 use rows::{ItemRow, Row};
 
@@ -53,11 +53,11 @@ fn literal_row(l: Literal) -> Row
 }
 
 // Without a pattern, with one, with one that ends in an ellipsis; each without and with a parameter.
-fn lambda_row(x: MaybeName, p: Pattern, body: ExprId) -> Row
+fn lambda_row(x: Option<NameId>, p: Pattern, body: ExprId) -> Row
     ensures { Says result (Expr.Lambda x p body) }
 {
     match x {
-        MaybeName::Absent => match p {
+        None => match p {
             Pattern::Absent => Row {
                 sort: 9,
                 a: body.0,
@@ -77,7 +77,7 @@ fn lambda_row(x: MaybeName, p: Pattern, body: ExprId) -> Row
                 c: 0,
             },
         },
-        MaybeName::Name(n) => match p {
+        Some(n) => match p {
             Pattern::Absent => Row {
                 sort: 10,
                 a: body.0,
@@ -100,17 +100,17 @@ fn lambda_row(x: MaybeName, p: Pattern, body: ExprId) -> Row
     }
 }
 
-fn select_row(set: ExprId, default: MaybeExpr) -> Row
+fn select_row(set: ExprId, default: Option<ExprId>) -> Row
     ensures { Says result (Expr.Select set default) }
 {
     match default {
-        MaybeExpr::Absent => Row {
+        None => Row {
             sort: 22,
             a: set.0,
             b: 0,
             c: 0,
         },
-        MaybeExpr::Expr(d) => Row {
+        Some(d) => Row {
             sort: 23,
             a: set.0,
             b: d.0,
@@ -230,25 +230,25 @@ pub fn row_of(e: Expr) -> Row
 }
 
 // Without and with a name, each without and with a default.
-fn field_row(x: MaybeName, default: MaybeExpr) -> ItemRow
+fn field_row(x: Option<NameId>, default: Option<ExprId>) -> ItemRow
     ensures { SaysItem result (Item.Field x default) }
 {
     match x {
-        MaybeName::Absent => match default {
-            MaybeExpr::Absent => ItemRow { tag: 2, a: 0, b: 0 },
-            MaybeExpr::Expr(d) => ItemRow {
+        None => match default {
+            None => ItemRow { tag: 2, a: 0, b: 0 },
+            Some(d) => ItemRow {
                 tag: 4,
                 a: 0,
                 b: d.0,
             },
         },
-        MaybeName::Name(n) => match default {
-            MaybeExpr::Absent => ItemRow {
+        Some(n) => match default {
+            None => ItemRow {
                 tag: 3,
                 a: n.0,
                 b: 0,
             },
-            MaybeExpr::Expr(d) => ItemRow {
+            Some(d) => ItemRow {
                 tag: 5,
                 a: n.0,
                 b: d.0,

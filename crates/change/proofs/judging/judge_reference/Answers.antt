@@ -9,13 +9,13 @@ pub returns-in_default : goal.returns-in_default
 returns-in_default c = no_reference _ _ _ _ _ c.expr_count.ensures.0 c.if-expr_count-number.false _ c.reference_text.ensures c.in_default.is
 
 pub count_moved_by_reference-requires : goal.count_moved_by_reference-requires
-count_moved_by_reference-requires c = (c.requires, refers_to _ _ _ c.reference_text.ensures _ c.in-Text.is)
+count_moved_by_reference-requires c = (c.requires, refers_to _ _ _ c.reference_text.ensures _ c.in-Some.is)
 
 pub returns-in-Unfit : goal.returns-in-Unfit
-returns-in-Unfit c = reference_unfit _ _ _ _ _ c.expr_count.ensures.0 c.if-expr_count-number.false _ c.reference_text.ensures _ c.in-Text.is _ c.judge_text.ensures _ _ c.in-Unfit.is
+returns-in-Unfit c = reference_unfit _ _ _ _ _ c.expr_count.ensures.0 c.if-expr_count-number.false _ c.reference_text.ensures _ c.in-Some.is _ c.judge_text.ensures _ _ c.in-Unfit.is
 
 pub returns-in-Same : goal.returns-in-Same
-returns-in-Same c = reference_equal _ _ _ _ _ c.expr_count.ensures.0 c.if-expr_count-number.false _ c.reference_text.ensures _ c.in-Text.is _ c.judge_text.ensures c.in-Same.is
+returns-in-Same c = reference_equal _ _ _ _ _ c.expr_count.ensures.0 c.if-expr_count-number.false _ c.reference_text.ensures _ c.in-Some.is _ c.judge_text.ensures c.in-Same.is
 
 pub returns-in-Other : goal.returns-in-Other
-returns-in-Other c = reference_other _ _ _ _ _ c.expr_count.ensures.0 c.if-expr_count-number.false _ c.reference_text.ensures _ c.in-Text.is _ c.judge_text.ensures c.in-Other.is _ c.count_moved_by_reference.ensures _ c.in_bytes.ensures
+returns-in-Other c = reference_other _ _ _ _ _ c.expr_count.ensures.0 c.if-expr_count-number.false _ c.reference_text.ensures _ c.in-Some.is _ c.judge_text.ensures c.in-Other.is _ c.count_moved_by_reference.ensures _ c.in_bytes.ensures

@@ -4,10 +4,10 @@ use Rattle.keys.specs.AstUtils.{attr_kind_of}
 use Rattle.module.specs.Ids.{node_of}
 use Rattle.keys.proofs.ast_utils.str_key.Goals as goal
 
-pub returns-in-Text : goal.returns-in-Text
+pub returns-in-Some : goal.returns-in-Some
 unfolding attr_kind_of
-returns-in-Text c = key_text _ _ _ _ c.get_str_literal.ensures _ c.in-Text.is
+returns-in-Some c = key_text _ _ _ _ c.get_str_literal.ensures _ c.in-Some.is
 
-pub returns-in-Absent : goal.returns-in-Absent
+pub returns-in-None : goal.returns-in-None
 unfolding attr_kind_of node_of
-returns-in-Absent c = key_parts _ _ _ _ c.get_str_literal.ensures c.in-Absent.is
+returns-in-None c = key_parts _ _ _ _ c.get_str_literal.ensures c.in-None.is

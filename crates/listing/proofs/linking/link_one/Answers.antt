@@ -13,8 +13,8 @@ returns-in_default c = links_none _ _ _ (sym c.name_meant.ensures ∙ ap name_of
 
 pub returns-then-n-name : goal.returns-then-n-name
 unfolding name_of
-returns-then-n-name c = links_past _ _ _ _ (sym c.name_meant.ensures ∙ ap name_of c.in-Name.is) c.if-n-name.true
+returns-then-n-name c = links_past _ _ _ _ (sym c.name_meant.ensures ∙ ap name_of c.in-Some.is) c.if-n-name.true
 
 pub returns : goal.returns
 unfolding name_of
-returns c = links_one _ _ _ _ _ _ _ c.requires.0 c.requires.1 c.requires.2 (sym c.name_meant.ensures ∙ ap name_of c.in-Name.is) c.if-n-name.false (rw c.wide.ensures at c.get32-head.ensures) (rw c.wide-2.ensures at c.put32.ensures) (rw c.wide-3.ensures at c.put32-2.ensures)
+returns c = links_one _ _ _ _ _ _ _ c.requires.0 c.requires.1 c.requires.2 (sym c.name_meant.ensures ∙ ap name_of c.in-Some.is) c.if-n-name.false (rw c.wide.ensures at c.get32-head.ensures) (rw c.wide-2.ensures at c.put32.ensures) (rw c.wide-3.ensures at c.put32-2.ensures)

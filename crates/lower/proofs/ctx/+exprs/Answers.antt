@@ -50,14 +50,14 @@ attr-returns t c = attr_ident _ _ _ c.node_kind-kind.ensures c.if-kind-eq24.fals
 pub attrs-loop-a-init : goal.attrs-loop-a-init
 attrs-loop-a-init t c = attrpath_start _ _ _
 
-pub attrs-returns-in-End : goal.attrs-returns-in-End
-attrs-returns-in-End t c = gathering_end c.loop-a.invariant (in_end _ _ _ _ c.next_in.ensures c.in-End.is)
+pub attrs-returns-in-None : goal.attrs-returns-in-None
+attrs-returns-in-None t c = gathering_end c.loop-a.invariant (in_end _ _ _ _ c.next_in.ensures c.in-None.is)
 
 pub attrs-loop-a-smaller : goal.attrs-loop-a-smaller
-attrs-loop-a-smaller t c = let a = in_first _ _ _ _ c.next_in.ensures _ _ c.in-Item.is in omega (arith, a.onward, a.inside)
+attrs-loop-a-smaller t c = let a = in_first _ _ _ _ c.next_in.ensures _ _ c.in-Some.is in omega (arith, a.onward, a.inside)
 
 pub attrs-loop-a-preserved : goal.attrs-loop-a-preserved
-attrs-loop-a-preserved t c = attrpath_turn _ c.loop-a.invariant (in_first _ _ _ _ c.next_in.ensures _ _ c.in-Item.is) _ c.attr-e.ensures c.push_item.ensures
+attrs-loop-a-preserved t c = attrpath_turn _ c.loop-a.invariant (in_first _ _ _ _ c.next_in.ensures _ _ c.in-Some.is) _ c.attr-e.ensures c.push_item.ensures
 
 -- ---- binds
 
@@ -141,14 +141,14 @@ entries-first_entry-i-requires t c = omega (arith, c.requires)
 pub entries-loop-e-init : goal.entries-loop-e-init
 entries-loop-e-init t c = entries_start _ _ _ _ _ c.first_entry-i.ensures
 
-pub entries-returns-in-End : goal.entries-returns-in-End
-entries-returns-in-End t c = merging_end c.loop-e.invariant (in_end _ _ _ _ (next_of_node _ _ _ _ c.next_item.ensures) c.in-End.is)
+pub entries-returns-in-None : goal.entries-returns-in-None
+entries-returns-in-None t c = merging_end c.loop-e.invariant (in_end _ _ _ _ (next_of_node _ _ _ _ c.next_item.ensures) c.in-None.is)
 
 pub entries-loop-e-smaller : goal.entries-loop-e-smaller
-entries-loop-e-smaller t c = let a = in_first _ _ _ _ (next_of_node _ _ _ _ c.next_item.ensures) _ _ c.in-Item.is in omega (arith, a.onward, a.inside)
+entries-loop-e-smaller t c = let a = in_first _ _ _ _ (next_of_node _ _ _ _ c.next_item.ensures) _ _ c.in-Some.is in omega (arith, a.onward, a.inside)
 
 pub entries-loop-e-preserved : goal.entries-loop-e-preserved
-entries-loop-e-preserved t c = merging_turn c.loop-e.invariant (in_first _ _ _ _ (next_of_node _ _ _ _ c.next_item.ensures) _ _ c.in-Item.is) c.entry.ensures
+entries-loop-e-preserved t c = merging_turn c.loop-e.invariant (in_first _ _ _ _ (next_of_node _ _ _ _ c.next_item.ensures) _ _ c.in-Some.is) c.entry.ensures
 
 -- ---- entry
 
@@ -335,14 +335,14 @@ field-returns t c = field_lowers _ _ _ _ _ c.children_of-at.ensures (name_lowers
 pub fields-loop-f-init : goal.fields-loop-f-init
 fields-loop-f-init t c = fields_start _ _ _
 
-pub fields-returns-in-End : goal.fields-returns-in-End
-fields-returns-in-End t c = gathering_end c.loop-f.invariant (in_end _ _ _ _ c.next_in.ensures c.in-End.is)
+pub fields-returns-in-None : goal.fields-returns-in-None
+fields-returns-in-None t c = gathering_end c.loop-f.invariant (in_end _ _ _ _ c.next_in.ensures c.in-None.is)
 
 pub fields-loop-f-smaller : goal.fields-loop-f-smaller
-fields-loop-f-smaller t c = let a = in_first _ _ _ _ c.next_in.ensures _ _ c.in-Item.is in omega (arith, a.onward, a.inside)
+fields-loop-f-smaller t c = let a = in_first _ _ _ _ c.next_in.ensures _ _ c.in-Some.is in omega (arith, a.onward, a.inside)
 
 pub fields-loop-f-preserved : goal.fields-loop-f-preserved
-fields-loop-f-preserved t c = gathering_turn c.loop-f.invariant (in_first _ _ _ _ c.next_in.ensures _ _ c.in-Item.is) c.field.ensures
+fields-loop-f-preserved t c = gathering_turn c.loop-f.invariant (in_first _ _ _ _ c.next_in.ensures _ _ c.in-Some.is) c.field.ensures
 
 -- ---- get
 
@@ -423,14 +423,14 @@ inherit-src-from_set-requires t c = (omega (arith, c.decreases), omega (arith, c
 pub inherit-loop-a-init : goal.inherit-loop-a-init
 inherit-loop-a-init t c = inherits_start _ _ _ _ _
 
-pub inherit-returns-in-End : goal.inherit-returns-in-End
-inherit-returns-in-End t c = inherits_end _ _ _ _ _ c.kid-place.ensures c.src-from_set.ensures c.loop-a.invariant (in_end _ _ _ _ (next_of_node _ _ _ _ c.next_item.ensures) c.in-End.is)
+pub inherit-returns-in-None : goal.inherit-returns-in-None
+inherit-returns-in-None t c = inherits_end _ _ _ _ _ c.kid-place.ensures c.src-from_set.ensures c.loop-a.invariant (in_end _ _ _ _ (next_of_node _ _ _ _ c.next_item.ensures) c.in-None.is)
 
 pub inherit-loop-a-smaller : goal.inherit-loop-a-smaller
-inherit-loop-a-smaller t c = let a = in_first _ _ _ _ (next_of_node _ _ _ _ c.next_item.ensures) _ _ c.in-Item.is in omega (arith, a.onward, a.inside)
+inherit-loop-a-smaller t c = let a = in_first _ _ _ _ (next_of_node _ _ _ _ c.next_item.ensures) _ _ c.in-Some.is in omega (arith, a.onward, a.inside)
 
 pub inherit-loop-a-preserved : goal.inherit-loop-a-preserved
-inherit-loop-a-preserved t c = merging_turn c.loop-a.invariant (in_first _ _ _ _ (next_of_node _ _ _ _ c.next_item.ensures) _ _ c.in-Item.is) c.heir.ensures
+inherit-loop-a-preserved t c = merging_turn c.loop-a.invariant (in_first _ _ _ _ (next_of_node _ _ _ _ c.next_item.ensures) _ _ c.in-Some.is) c.heir.ensures
 
 -- ---- join
 
@@ -463,11 +463,11 @@ keyed-opt-e-requires t c = (omega (arith, c.decreases), omega (arith, c.requires
 pub keyed-merge_static_value-requires : goal.keyed-merge_static_value-requires
 keyed-merge_static_value-requires t c = omega (arith, c.requires)
 
-pub keyed-returns-in-Merged : goal.keyed-returns-in-Merged
-keyed-returns-in-Merged t c = keyed_merged _ _ _ _ _ _ _ _ c.into_set.ensures c.in-Merged.is c.join.ensures
+pub keyed-returns-in-Some : goal.keyed-returns-in-Some
+keyed-returns-in-Some t c = keyed_merged _ _ _ _ _ _ _ _ c.into_set.ensures c.in-Some.is c.join.ensures
 
-pub keyed-returns-in-Other : goal.keyed-returns-in-Other
-keyed-returns-in-Other t c = keyed_other _ _ _ _ _ _ _ _ c.into_set.ensures c.in-Other.is c.node_pointer-p.ensures c.opt-e.ensures c.merge_static_value.ensures
+pub keyed-returns-in-None : goal.keyed-returns-in-None
+keyed-returns-in-None t c = keyed_other _ _ _ _ _ _ _ _ c.into_set.ensures c.in-None.is c.node_pointer-p.ensures c.opt-e.ensures c.merge_static_value.ensures
 
 -- ---- lambda
 
@@ -549,14 +549,14 @@ pub list-alloc_expr-requires : goal.list-alloc_expr-requires
 unfolding ValidExpr
 list-alloc_expr-requires t c = search rules
 
-pub list-returns-in-End : goal.list-returns-in-End
-list-returns-in-End t c = list_end _ _ _ c.loop-store.invariant c.waiting_count-base.ensures c.node_pointer-p.ensures (in_end _ _ _ _ (next_of_node _ _ _ _ c.next_item.ensures) c.in-End.is) c.alloc_expr.ensures
+pub list-returns-in-None : goal.list-returns-in-None
+list-returns-in-None t c = list_end _ _ _ c.loop-store.invariant c.waiting_count-base.ensures c.node_pointer-p.ensures (in_end _ _ _ _ (next_of_node _ _ _ _ c.next_item.ensures) c.in-None.is) c.alloc_expr.ensures
 
 pub list-loop-store-smaller : goal.list-loop-store-smaller
-list-loop-store-smaller t c = let a = in_first _ _ _ _ (next_of_node _ _ _ _ c.next_item.ensures) _ _ c.in-Item.is in omega (arith, a.onward, a.inside)
+list-loop-store-smaller t c = let a = in_first _ _ _ _ (next_of_node _ _ _ _ c.next_item.ensures) _ _ c.in-Some.is in omega (arith, a.onward, a.inside)
 
 pub list-loop-store-preserved : goal.list-loop-store-preserved
-list-loop-store-preserved t c = list_turn _ c.loop-store.invariant (in_first _ _ _ _ (next_of_node _ _ _ _ c.next_item.ensures) _ _ c.in-Item.is) _ c.expr-e.ensures c.push_item.ensures
+list-loop-store-preserved t c = list_turn _ c.loop-store.invariant (in_first _ _ _ _ (next_of_node _ _ _ _ c.next_item.ensures) _ _ c.in-Some.is) _ c.expr-e.ensures c.push_item.ensures
 
 -- ---- nest
 
@@ -590,15 +590,15 @@ pub nested-last-requires : goal.nested-last-requires
 nested-last-requires t c = (omega (arith, c.decreases), omega (arith, c.requires))
 
 pub nested-step-requires : goal.nested-step-requires
-nested-step-requires t c = let f = in_first _ _ _ _ c.next_in.ensures _ _ c.in-Item.is in (omega (arith, c.decreases, f.onward, f.inside), omega (arith, c.requires))
+nested-step-requires t c = let f = in_first _ _ _ _ c.next_in.ensures _ _ c.in-Some.is in (omega (arith, c.decreases, f.onward, f.inside), omega (arith, c.requires))
 
-pub nested-returns-in-End : goal.nested-returns-in-End
+pub nested-returns-in-None : goal.nested-returns-in-None
 unfolding NextIn
-nested-returns-in-End t c = nested_last _ _ _ _ _ _ (rw c.in-End.is at c.next_in.ensures) c.last.ensures
+nested-returns-in-None t c = nested_last _ _ _ _ _ _ (rw c.in-None.is at c.next_in.ensures) c.last.ensures
 
-pub nested-returns-in-Item : goal.nested-returns-in-Item
+pub nested-returns-in-Some : goal.nested-returns-in-Some
 unfolding NextIn
-nested-returns-in-Item t c = nested_before _ _ _ _ _ _ (rw c.in-Item.is at c.next_in.ensures) c.step.ensures
+nested-returns-in-Some t c = nested_before _ _ _ _ _ _ (rw c.in-Some.is at c.next_in.ensures) c.step.ensures
 
 -- ---- opt
 
@@ -608,11 +608,11 @@ opt-expr-requires t c = (omega (arith, c.decreases), omega (arith, c.requires))
 pub opt-alloc_missing-requires : goal.opt-alloc_missing-requires
 opt-alloc_missing-requires t c = omega (arith, c.requires)
 
-pub opt-returns-in-Node : goal.opt-returns-in-Node
-opt-returns-in-Node t c = opt_node _ _ c.in-Node.is c.expr.ensures
+pub opt-returns-in-Some : goal.opt-returns-in-Some
+opt-returns-in-Some t c = opt_node _ _ c.in-Some.is c.expr.ensures
 
-pub opt-returns-in-Absent : goal.opt-returns-in-Absent
-opt-returns-in-Absent t c = opt_absent _ c.in-Absent.is c.alloc_missing.ensures
+pub opt-returns-in-None : goal.opt-returns-in-None
+opt-returns-in-None t c = opt_absent _ c.in-None.is c.alloc_missing.ensures
 
 -- ---- pair
 
@@ -662,14 +662,14 @@ part-returns t c = part_expr _ _ _ c.node_kind.ensures _ _ c.if-node_kind-eq32.f
 pub parts-loop-p-init : goal.parts-loop-p-init
 parts-loop-p-init t c = parts_start _ _ _
 
-pub parts-returns-in-End : goal.parts-returns-in-End
-parts-returns-in-End t c = gathering_end c.loop-p.invariant (in_end _ _ _ _ (next_of_node _ _ _ _ c.next_item.ensures) c.in-End.is)
+pub parts-returns-in-None : goal.parts-returns-in-None
+parts-returns-in-None t c = gathering_end c.loop-p.invariant (in_end _ _ _ _ (next_of_node _ _ _ _ c.next_item.ensures) c.in-None.is)
 
 pub parts-loop-p-smaller : goal.parts-loop-p-smaller
-parts-loop-p-smaller t c = let a = in_first _ _ _ _ (next_of_node _ _ _ _ c.next_item.ensures) _ _ c.in-Item.is in omega (arith, a.onward, a.inside)
+parts-loop-p-smaller t c = let a = in_first _ _ _ _ (next_of_node _ _ _ _ c.next_item.ensures) _ _ c.in-Some.is in omega (arith, a.onward, a.inside)
 
 pub parts-loop-p-preserved : goal.parts-loop-p-preserved
-parts-loop-p-preserved t c = gathering_turn c.loop-p.invariant (in_first _ _ _ _ (next_of_node _ _ _ _ c.next_item.ensures) _ _ c.in-Item.is) c.part.ensures
+parts-loop-p-preserved t c = gathering_turn c.loop-p.invariant (in_first _ _ _ _ (next_of_node _ _ _ _ c.next_item.ensures) _ _ c.in-Some.is) c.part.ensures
 
 -- ---- path
 
@@ -730,13 +730,13 @@ put-push-requires t c = (omega (arith, c.decreases), omega (arith, c.requires))
 pub put-nested-requires : goal.put-nested-requires
 put-nested-requires t c = (omega (arith, c.decreases), omega (arith, c.requires))
 
-pub put-returns-in-End : goal.put-returns-in-End
+pub put-returns-in-None : goal.put-returns-in-None
 unfolding NextIn
-put-returns-in-End t c = attrpath_none _ _ _ _ c.children_of-at.ensures (rw c.in-End.is at c.next_in.ensures) c.push.ensures
+put-returns-in-None t c = attrpath_none _ _ _ _ c.children_of-at.ensures (rw c.in-None.is at c.next_in.ensures) c.push.ensures
 
-pub put-returns-in-Item : goal.put-returns-in-Item
+pub put-returns-in-Some : goal.put-returns-in-Some
 unfolding NextIn
-put-returns-in-Item t c = attrpath_there _ _ _ _ c.children_of-at.ensures (rw c.in-Item.is at c.next_in.ensures) c.nested.ensures
+put-returns-in-Some t c = attrpath_there _ _ _ _ c.children_of-at.ensures (rw c.in-Some.is at c.next_in.ensures) c.nested.ensures
 
 -- ---- set
 
@@ -773,11 +773,11 @@ src-opt-e-requires t c = (omega (arith, c.decreases), omega (arith, c.requires))
 pub src-add_source-requires : goal.src-add_source-requires
 src-add_source-requires t c = omega arith
 
-pub src-returns-in-Node : goal.src-returns-in-Node
-src-returns-in-Node t c = source_there _ _ _ _ _ _ c.in-Node.is c.kid-inner.ensures c.opt-e.ensures c.add_source.ensures
+pub src-returns-in-Some : goal.src-returns-in-Some
+src-returns-in-Some t c = source_there _ _ _ _ _ _ c.in-Some.is c.kid-inner.ensures c.opt-e.ensures c.add_source.ensures
 
-pub src-returns-in-Absent : goal.src-returns-in-Absent
-src-returns-in-Absent t c = source_none _ _ _ c.in-Absent.is
+pub src-returns-in-None : goal.src-returns-in-None
+src-returns-in-None t c = source_none _ _ _ c.in-None.is
 
 -- ---- step
 
@@ -830,22 +830,22 @@ pub str-alloc_expr-requires : goal.str-alloc_expr-requires
 unfolding ValidExpr
 str-alloc_expr-requires t c = (omega (arith, c.requires), tt)
 
-pub str-returns-in-Text : goal.str-returns-in-Text
-str-returns-in-Text t c = string_literal _ _ _ c.node_pointer-p.ensures _ c.get_str_literal.ensures _ c.in-Text.is c.alloc_lone.ensures
+pub str-returns-in-Some : goal.str-returns-in-Some
+str-returns-in-Some t c = string_literal _ _ _ c.node_pointer-p.ensures _ c.get_str_literal.ensures _ c.in-Some.is c.alloc_lone.ensures
 
-pub str-returns-in-Absent : goal.str-returns-in-Absent
-str-returns-in-Absent t c = string_parts _ _ _ c.node_pointer-p.ensures _ c.get_str_literal.ensures _ c.waiting_count-base.ensures c.in-Absent.is c.parts.ensures c.alloc_expr.ensures
+pub str-returns-in-None : goal.str-returns-in-None
+str-returns-in-None t c = string_parts _ _ _ c.node_pointer-p.ensures _ c.get_str_literal.ensures _ c.waiting_count-base.ensures c.in-None.is c.parts.ensures c.alloc_expr.ensures
 
 -- ---- there
 
 pub there-expr-requires : goal.there-expr-requires
 there-expr-requires t c = (omega (arith, c.decreases), omega (arith, c.requires))
 
-pub there-returns-in-Node : goal.there-returns-in-Node
-there-returns-in-Node t c = there_node _ _ _ c.in-Node.is c.expr.ensures
+pub there-returns-in-Some : goal.there-returns-in-Some
+there-returns-in-Some t c = there_node _ _ _ c.in-Some.is c.expr.ensures
 
-pub there-returns-in-Absent : goal.there-returns-in-Absent
-there-returns-in-Absent t c = there_absent _ _ c.in-Absent.is
+pub there-returns-in-None : goal.there-returns-in-None
+there-returns-in-None t c = there_absent _ _ c.in-None.is
 
 -- ---- unop
 

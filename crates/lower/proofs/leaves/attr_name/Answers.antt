@@ -9,8 +9,8 @@ pub alloc_lone-requires : goal.alloc_lone-requires
 unfolding ValidExpr Valid
 alloc_lone-requires c = (omega arith, tt)
 
-pub returns-in-Text : goal.returns-in-Text
-returns-in-Text c = attr_taken _ _ _ c.node_pointer-p.ensures _ c.name_of_ident.ensures _ c.in-Text.is c.alloc_lone.ensures
+pub returns-in-Some : goal.returns-in-Some
+returns-in-Some c = attr_taken _ _ _ c.node_pointer-p.ensures _ c.name_of_ident.ensures _ c.in-Some.is c.alloc_lone.ensures
 
-pub returns-in-Absent : goal.returns-in-Absent
-returns-in-Absent c = attr_hole _ _ _ c.node_pointer-p.ensures _ c.name_of_ident.ensures c.in-Absent.is c.alloc_missing.ensures
+pub returns-in-None : goal.returns-in-None
+returns-in-None c = attr_hole _ _ _ c.node_pointer-p.ensures _ c.name_of_ident.ensures c.in-None.is c.alloc_missing.ensures

@@ -8,12 +8,12 @@ pub alloc_lone-requires : goal.alloc_lone-requires
 unfolding ValidExpr
 alloc_lone-requires c = (omega arith, tt)
 
-pub alloc_lone-requires-in-Absent : goal.alloc_lone-requires-in-Absent
+pub alloc_lone-requires-in-None : goal.alloc_lone-requires-in-None
 unfolding ValidExpr
-alloc_lone-requires-in-Absent c = (omega arith, tt)
+alloc_lone-requires-in-None c = (omega arith, tt)
 
-pub returns-in-Text : goal.returns-in-Text
-returns-in-Text c = ident_taken _ _ _ c.node_pointer-p.ensures _ c.name_of_ident.ensures _ c.in-Text.is c.alloc_lone.ensures
+pub returns-in-Some : goal.returns-in-Some
+returns-in-Some c = ident_taken _ _ _ c.node_pointer-p.ensures _ c.name_of_ident.ensures _ c.in-Some.is c.alloc_lone.ensures
 
-pub returns-in-Absent : goal.returns-in-Absent
-returns-in-Absent c = ident_hole _ _ _ c.node_pointer-p.ensures _ c.name_of_ident.ensures c.in-Absent.is c.alloc_lone-in-Absent.ensures
+pub returns-in-None : goal.returns-in-None
+returns-in-None c = ident_hole _ _ _ c.node_pointer-p.ensures _ c.name_of_ident.ensures c.in-None.is c.alloc_lone-in-None.ensures

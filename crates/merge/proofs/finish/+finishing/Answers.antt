@@ -17,24 +17,24 @@ finish-loop-e-init t c = going_none _ _ _ _
 pub finish-entry_of-requires : goal.finish-entry_of-requires
 finish-entry_of-requires t c = omega (arith, c.requires, c.loop-e.invariant.wrote.size)
 
-pub finish-returns-in-End : goal.finish-returns-in-End
+pub finish-returns-in-None : goal.finish-returns-in-None
 unfolding NextInRun
-finish-returns-in-End t c = going_done c.loop-e.invariant (rw c.in-End.is at c.entry_of.ensures) c.first_of-j.ensures.0
+finish-returns-in-None t c = going_done c.loop-e.invariant (rw c.in-None.is at c.entry_of.ensures) c.first_of-j.ensures.0
 
 pub finish-finish_entry-requires : goal.finish-finish_entry-requires
 finish-finish_entry-requires t c = (omega (arith, c.decreases), omega (arith, c.requires, c.loop-e.invariant.wrote.size))
 
 pub finish-overflow_add-j : goal.finish-overflow_add-j
 unfolding NextInRun
-finish-overflow_add-j t c = let n = rw c.in-Entry.is at c.entry_of.ensures in omega (arith, n.1)
+finish-overflow_add-j t c = let n = rw c.in-Some.is at c.entry_of.ensures in omega (arith, n.1)
 
 pub finish-loop-e-smaller : goal.finish-loop-e-smaller
 unfolding NextInRun
-finish-loop-e-smaller t c = let n = rw c.in-Entry.is at c.entry_of.ensures in omega (arith, n.1)
+finish-loop-e-smaller t c = let n = rw c.in-Some.is at c.entry_of.ensures in omega (arith, n.1)
 
 pub finish-loop-e-preserved : goal.finish-loop-e-preserved
 unfolding NextInRun
-finish-loop-e-preserved t c = let n = rw c.in-Entry.is at c.entry_of.ensures in going_more c.loop-e.invariant n.0 c.finish_entry.ensures
+finish-loop-e-preserved t c = let n = rw c.in-Some.is at c.entry_of.ensures in going_more c.loop-e.invariant n.0 c.finish_entry.ensures
 
 -- ---- finish_entry
 
@@ -67,14 +67,14 @@ finish_expr-returns t c = set_finished _ _ _ _ (omega arith) c.waiting_count-bas
 
 -- ---- finish_value
 
-pub finish_value-returns-in-Set : goal.finish_value-returns-in-Set
+pub finish_value-returns-in-Some : goal.finish_value-returns-in-Some
 unfolding maybe_set_of binding_of
-finish_value-returns-in-Set t c = rw c.in-Set.is (nested_wins _ _ _ _ c.finish_expr-e.ensures)
+finish_value-returns-in-Some t c = rw c.in-Some.is (nested_wins _ _ _ _ c.finish_expr-e.ensures)
 
-pub finish_value-returns-in-Value : goal.finish_value-returns-in-Value
+pub finish_value-returns-in-Some-value : goal.finish_value-returns-in-Some-value
 unfolding maybe_set_of maybe_value_of
-finish_value-returns-in-Value t c = rw (c.in-Absent.is, c.in-Value.is) (value_stays _ _ _ _)
+finish_value-returns-in-Some-value t c = rw (c.in-None.is, c.in-Some-value.is) (value_stays _ _ _ _)
 
-pub finish_value-returns-in-Absent-value : goal.finish_value-returns-in-Absent-value
+pub finish_value-returns-in-None-value : goal.finish_value-returns-in-None-value
 unfolding maybe_set_of maybe_value_of binding_of
-finish_value-returns-in-Absent-value t c = rw (c.in-Absent.is, c.in-Absent-value.is) (value_missing _ _ c.alloc_missing-e.ensures)
+finish_value-returns-in-None-value t c = rw (c.in-None.is, c.in-None-value.is) (value_missing _ _ c.alloc_missing-e.ensures)

@@ -2,10 +2,10 @@
 use Rattle.module.specs.Ids.{expr_of}
 use Rattle.merge.proofs.inherit.inherit_value.Goals as goal
 
-pub returns-in-Absent : goal.returns-in-Absent
+pub returns-in-None : goal.returns-in-None
 unfolding expr_of
-returns-in-Absent c = rw c.in-Absent.is c.inherited.ensures
+returns-in-None c = rw c.in-None.is c.inherited.ensures
 
-pub returns-in-Expr : goal.returns-in-Expr
+pub returns-in-Some : goal.returns-in-Some
 unfolding expr_of
-returns-in-Expr c = rw c.in-Expr.is c.inherited_from.ensures
+returns-in-Some c = rw c.in-Some.is c.inherited_from.ensures

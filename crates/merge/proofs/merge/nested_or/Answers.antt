@@ -3,10 +3,10 @@ use Rattle.merge.proofs.KeySteps.{nested_read, nested_there, nested_lacked}
 use Rattle.open_sets.specs.Entries.{maybe_set_of}
 use Rattle.merge.proofs.merge.nested_or.Goals as goal
 
-pub returns-in-Set : goal.returns-in-Set
+pub returns-in-Some : goal.returns-in-Some
 unfolding maybe_set_of
-returns-in-Set c = nested_there _ _ _ (rw c.in-Set.is at (nested_read _ _ _ _ c.nested_in.ensures c.entry_at.ensures))
+returns-in-Some c = nested_there _ _ _ (rw c.in-Some.is at (nested_read _ _ _ _ c.nested_in.ensures c.entry_at.ensures))
 
-pub returns-in-Absent : goal.returns-in-Absent
+pub returns-in-None : goal.returns-in-None
 unfolding maybe_set_of
-returns-in-Absent c = nested_lacked _ _ (rw c.in-Absent.is at (nested_read _ _ _ _ c.nested_in.ensures c.entry_at.ensures)) c.nest_in.ensures
+returns-in-None c = nested_lacked _ _ (rw c.in-None.is at (nested_read _ _ _ _ c.nested_in.ensures c.entry_at.ensures)) c.nest_in.ensures

@@ -9,4 +9,4 @@ pub returns-in_default : goal.returns-in_default
 returns-in_default c = no_text_lem _ _ _ _ _ c.may_move.ensures c.if-not-may_move.false-raw _ c.reference_text.ensures c.in_default.is
 
 pub returns : goal.returns
-returns c = by_name _ _ _ _ _ c.may_move.ensures c.if-not-may_move.false-raw _ c.reference_text.ensures _ c.in-Text.is _ c.resolve_renamed-a.ensures _ c.unless_kept.ensures
+returns c = by_name _ _ _ _ _ c.may_move.ensures c.if-not-may_move.false-raw _ c.reference_text.ensures _ c.in-Some.is _ c.resolve_renamed-a.ensures _ c.unless_kept.ensures

@@ -2,8 +2,8 @@
 use Rattle.nameres.proofs.StepLaws.{afresh_reference, afresh_other}
 use Rattle.nameres.proofs.resolution.answer_afresh.Goals as goal
 
-pub returns-in-Text : goal.returns-in-Text
-returns-in-Text c = afresh_reference _ _ _ _ _ _ c.reference_text.ensures c.in-Text.is c.resolve_name-a.ensures c.set_answer.ensures
+pub returns-in-Some : goal.returns-in-Some
+returns-in-Some c = afresh_reference _ _ _ _ _ _ c.reference_text.ensures c.in-Some.is c.resolve_name-a.ensures c.set_answer.ensures
 
-pub returns-in-Absent : goal.returns-in-Absent
-returns-in-Absent c = afresh_other _ _ _ _ c.reference_text.ensures c.in-Absent.is c.set_answer-in-Absent.ensures
+pub returns-in-None : goal.returns-in-None
+returns-in-None c = afresh_other _ _ _ _ c.reference_text.ensures c.in-None.is c.set_answer-in-None.ensures

@@ -4,9 +4,9 @@ use Rattle.open_sets.proofs.EntryLaws.{set_held}
 use Rattle.open_sets.specs.Entries.{maybe_set_of}
 use Rattle.open_sets.proofs.entry_rows.set_number.Goals as goal
 
-pub returns-in-Set : goal.returns-in-Set
-returns-in-Set c = set_held _ _ c.in-Set.is c.requires
+pub returns-in-Some : goal.returns-in-Some
+returns-in-Some c = set_held _ _ c.in-Some.is c.requires
 
-pub returns-in-Absent : goal.returns-in-Absent
+pub returns-in-None : goal.returns-in-None
 unfolding maybe_set_of marked
-returns-in-Absent c = rw c.in-Absent.is
+returns-in-None c = rw c.in-None.is

@@ -20,9 +20,9 @@ overflow_sub-n c = omega arith
 pub entered_as-requires : goal.entered_as-requires
 entered_as-requires c = c.requires
 
-pub returns-in-Name : goal.returns-in-Name
+pub returns-in-Some : goal.returns-in-Some
 unfolding name_of
-returns-in-Name c = name_found _ _ _ _ _ c.loop-i.invariant c.loop-i-test.true _ _ c.entered_as.ensures (ap name_of c.in-Name.is)
+returns-in-Some c = name_found _ _ _ _ _ c.loop-i.invariant c.loop-i-test.true _ _ c.entered_as.ensures (ap name_of c.in-Some.is)
 
 pub loop-i-smaller : goal.loop-i-smaller
 loop-i-smaller c = omega arith

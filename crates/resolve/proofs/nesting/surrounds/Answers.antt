@@ -17,10 +17,10 @@ pub returns-in_default : goal.returns-in_default
 returns-in_default c = unmet _ _ _ _ _ c.loop-at.invariant c.if-held-at.false c.outer.ensures c.in_default.is
 
 pub overflow_sub-left : goal.overflow_sub-left
-overflow_sub-left c = omega (arith, outer_low _ c.outer.ensures c.in-Scope.is)
+overflow_sub-left c = omega (arith, outer_low _ c.outer.ensures c.in-Some.is)
 
 pub loop-at-smaller : goal.loop-at-smaller
-loop-at-smaller c = omega (arith, outer_low _ c.outer.ensures c.in-Scope.is)
+loop-at-smaller c = omega (arith, outer_low _ c.outer.ensures c.in-Some.is)
 
 pub loop-at-preserved : goal.loop-at-preserved
-loop-at-preserved c = unmet_yet _ _ _ _ _ c.loop-at.invariant c.if-held-at.false c.outer.ensures c.in-Scope.is
+loop-at-preserved c = unmet_yet _ _ _ _ _ c.loop-at.invariant c.if-held-at.false c.outer.ensures c.in-Some.is

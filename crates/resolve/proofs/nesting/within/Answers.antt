@@ -8,7 +8,7 @@ pub returns-in_default : goal.returns-in_default
 returns-in_default c = none_held _ _ (no_scope c.in_default.is refl)
 
 pub returns-in_default-s : goal.returns-in_default-s
-returns-in_default-s c = none_stood _ (a_scope c.in-Scope.is refl) (no_scope c.in_default-s.is refl)
+returns-in_default-s c = none_stood _ (a_scope c.in-Some.is refl) (no_scope c.in_default-s.is refl)
 
 pub returns : goal.returns
-returns c = both_there _ _ (a_scope c.in-Scope.is refl) (a_scope c.in-Scope-s.is refl) c.surrounds.ensures
+returns c = both_there _ _ (a_scope c.in-Some.is refl) (a_scope c.in-Some-s.is refl) c.surrounds.ensures

@@ -28,7 +28,7 @@ pub loop-i-smaller : goal.loop-i-smaller
 loop-i-smaller c = omega arith
 
 pub loop-i-preserved : goal.loop-i-preserved
-loop-i-preserved c = (copying_more _ _ _ _ c.loop-i.invariant.0 _ c.reference_at.ensures _ _ c.in-Expr.is (rw c.wide.ensures at c.put32.ensures), omega arith)
+loop-i-preserved c = (copying_more _ _ _ _ c.loop-i.invariant.0 _ c.reference_at.ensures _ _ c.in-Some.is (rw c.wide.ensures at c.put32.ensures), omega arith)
 
 pub returns : goal.returns
 returns c = copying_done _ _ _ _ c.loop-i.invariant.0 (omega (arith, c.requires.1.0, c.loop-i-test.false))

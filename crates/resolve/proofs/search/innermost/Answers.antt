@@ -16,14 +16,14 @@ unfolding found_of
 returns-in-Here c = search_here _ _ _ _ _ _ c.loop-y.invariant _ c.look.ensures c.in-Here.is
 
 pub overflow_sub-left : goal.overflow_sub-left
-overflow_sub-left c = omega (arith, search_low _ _ _ _ _ _ c.loop-y.invariant _ c.look.ensures _ c.in-On.is c.in-Scope.is)
+overflow_sub-left c = omega (arith, search_low _ _ _ _ _ _ c.loop-y.invariant _ c.look.ensures _ c.in-On.is c.in-Some.is)
 
 pub loop-y-smaller : goal.loop-y-smaller
-loop-y-smaller c = omega (arith, search_low _ _ _ _ _ _ c.loop-y.invariant _ c.look.ensures _ c.in-On.is c.in-Scope.is)
+loop-y-smaller c = omega (arith, search_low _ _ _ _ _ _ c.loop-y.invariant _ c.look.ensures _ c.in-On.is c.in-Some.is)
 
 pub loop-y-preserved : goal.loop-y-preserved
-loop-y-preserved c = search_on _ _ _ _ _ _ c.loop-y.invariant _ c.look.ensures _ c.in-On.is c.in-Scope.is
+loop-y-preserved c = search_on _ _ _ _ _ _ c.loop-y.invariant _ c.look.ensures _ c.in-On.is c.in-Some.is
 
-pub returns-in-Absent : goal.returns-in-Absent
+pub returns-in-None : goal.returns-in-None
 unfolding found_of
-returns-in-Absent c = search_end _ _ _ _ _ _ c.loop-y.invariant _ c.look.ensures _ c.in-On.is c.in-Absent.is
+returns-in-None c = search_end _ _ _ _ _ _ c.loop-y.invariant _ c.look.ensures _ c.in-On.is c.in-None.is

@@ -26,10 +26,10 @@ pub returns-in_default : goal.returns-in_default
 returns-in_default c = counting_done c.loop-p.invariant _ c.own_withs-n.ensures c.outer.ensures c.in_default.is
 
 pub overflow_sub-left : goal.overflow_sub-left
-overflow_sub-left c = omega (arith, outer_low _ c.outer.ensures c.in-Scope.is)
+overflow_sub-left c = omega (arith, outer_low _ c.outer.ensures c.in-Some.is)
 
 pub loop-p-smaller : goal.loop-p-smaller
-loop-p-smaller c = omega (arith, outer_low _ c.outer.ensures c.in-Scope.is)
+loop-p-smaller c = omega (arith, outer_low _ c.outer.ensures c.in-Some.is)
 
 pub loop-p-preserved : goal.loop-p-preserved
-loop-p-preserved c = counting_on c.loop-p.invariant _ c.own_withs-n.ensures c.outer.ensures c.in-Scope.is
+loop-p-preserved c = counting_on c.loop-p.invariant _ c.own_withs-n.ensures c.outer.ensures c.in-Some.is

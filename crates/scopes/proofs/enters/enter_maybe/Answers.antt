@@ -4,10 +4,10 @@ use Rattle.scopes.proofs.EnterLaws.{enters_one, enters_none}
 use Rattle.spec.specs.Scopes.{one_or_none}
 use Rattle.scopes.proofs.enters.enter_maybe.Goals as goal
 
-pub returns-in-Name : goal.returns-in-Name
+pub returns-in-Some : goal.returns-in-Some
 unfolding name_of one_or_none
-returns-in-Name c = rw c.in-Name.is (enters_one c.enter_name.ensures)
+returns-in-Some c = rw c.in-Some.is (enters_one c.enter_name.ensures)
 
-pub returns-in-Absent : goal.returns-in-Absent
+pub returns-in-None : goal.returns-in-None
 unfolding name_of one_or_none
-returns-in-Absent c = rw c.in-Absent.is (enters_none _ _)
+returns-in-None c = rw c.in-None.is (enters_none _ _)

@@ -4,10 +4,10 @@ use Rattle.scopes.specs.Picking.{picks_of}
 use Rattle.spec.specs.Scopes.{one_or_none}
 use Rattle.scopes.proofs.picks.maybe.Goals as goal
 
-pub returns-in-Expr : goal.returns-in-Expr
+pub returns-in-Some : goal.returns-in-Some
 unfolding picks_of one_or_none expr_of
-returns-in-Expr c = rw c.in-Expr.is
+returns-in-Some c = rw c.in-Some.is
 
-pub returns-in-Absent : goal.returns-in-Absent
+pub returns-in-None : goal.returns-in-None
 unfolding picks_of one_or_none expr_of
-returns-in-Absent c = rw c.in-Absent.is
+returns-in-None c = rw c.in-None.is

@@ -5,18 +5,18 @@ use Rattle.rows.specs.Decoded.{item_with}
 use mathlib.Core.Path.{refl}
 use Rattle.store.proofs.codes.field_row.Goals as goal
 
-pub returns-in-Absent-default : goal.returns-in-Absent-default
+pub returns-in-None-default : goal.returns-in-None-default
 unfolding rows.item_of item_with name_of expr_of
-returns-in-Absent-default c = rw (c.in-Absent.is, c.in-Absent-default.is) (record { same = λ s. refl; in_range = refl })
+returns-in-None-default c = rw (c.in-None.is, c.in-None-default.is) (record { same = λ s. refl; in_range = refl })
 
-pub returns-in-Expr : goal.returns-in-Expr
+pub returns-in-Some-default : goal.returns-in-Some-default
 unfolding rows.item_of item_with name_of expr_of
-returns-in-Expr c = rw (c.in-Absent.is, c.in-Expr.is) (record { same = λ s. refl; in_range = refl })
+returns-in-Some-default c = rw (c.in-None.is, c.in-Some-default.is) (record { same = λ s. refl; in_range = refl })
 
-pub returns-in-Absent-default-2 : goal.returns-in-Absent-default-2
+pub returns-in-None-default-2 : goal.returns-in-None-default-2
 unfolding rows.item_of item_with name_of expr_of
-returns-in-Absent-default-2 c = rw (c.in-Name.is, c.in-Absent-default-2.is) (record { same = λ s. refl; in_range = refl })
+returns-in-None-default-2 c = rw (c.in-Some.is, c.in-None-default-2.is) (record { same = λ s. refl; in_range = refl })
 
-pub returns-in-Expr-default : goal.returns-in-Expr-default
+pub returns-in-Some-default-2 : goal.returns-in-Some-default-2
 unfolding rows.item_of item_with name_of expr_of
-returns-in-Expr-default c = rw (c.in-Name.is, c.in-Expr-default.is) (record { same = λ s. refl; in_range = refl })
+returns-in-Some-default-2 c = rw (c.in-Some.is, c.in-Some-default-2.is) (record { same = λ s. refl; in_range = refl })

@@ -6,10 +6,10 @@ use Rattle.store.specs.Codes.{sort_for, select_sort, ranged}
 use mathlib.Core.Path.{refl}
 use Rattle.store.proofs.codes.select_row.Goals as goal
 
-pub returns-in-Absent : goal.returns-in-Absent
+pub returns-in-None : goal.returns-in-None
 unfolding rows.expr_of expr_with sort_for select_sort ranged expr_of
-returns-in-Absent c = rw c.in-Absent.is (record { pointed = refl; same = λ s is. refl; sort_is = refl; in_range = refl })
+returns-in-None c = rw c.in-None.is (record { pointed = refl; same = λ s is. refl; sort_is = refl; in_range = refl })
 
-pub returns-in-Expr : goal.returns-in-Expr
+pub returns-in-Some : goal.returns-in-Some
 unfolding rows.expr_of expr_with sort_for select_sort ranged expr_of
-returns-in-Expr c = rw c.in-Expr.is (record { pointed = refl; same = λ s is. refl; sort_is = refl; in_range = refl })
+returns-in-Some c = rw c.in-Some.is (record { pointed = refl; same = λ s is. refl; sort_is = refl; in_range = refl })
