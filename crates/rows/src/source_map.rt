@@ -39,9 +39,7 @@ pub fn expr_for_node(store: &[u8], p: Pointer) -> MaybeExpr
     requires { Long store.now }
     ensures { expr_of result ≡ expr_for_node (module_in store.now) (pointer_of p) }
 {
-    let mut n = expr_count(store);
-    while 0 < n {
-        n -= 1;
+    for n in (0..expr_count(store)).rev() {
         if expr_points(store, ExprId(n), p) {
             return MaybeExpr::Expr(ExprId(n));
         }
@@ -53,9 +51,7 @@ pub fn name_for_node(store: &[u8], p: Pointer) -> MaybeName
     requires { Long store.now }
     ensures { name_of result ≡ name_for_node (module_in store.now) (pointer_of p) }
 {
-    let mut n = name_count(store);
-    while 0 < n {
-        n -= 1;
+    for n in (0..name_count(store)).rev() {
         if same_pointer(store, NAME_POINTERS + POINTER_ROW * wide(n), p) {
             return MaybeName::Name(NameId(n));
         }
