@@ -9,7 +9,7 @@ ghost use Rattle.layout.specs.States.{module_in};
 
 use crate::read_counts::{expr_count, name_count};
 use layout::tables::{EXPR_POINTERS, EXPR_ROW, EXPRS, NAME_POINTERS, POINTER_ROW};
-use layout::wide;
+use layout::{get_pointer, wide};
 use module::{ExprId, MaybeExpr, MaybeName, NameId, Pointer};
 use words::get32;
 
@@ -18,10 +18,7 @@ fn same_pointer(store: &[u8], at: usize, p: Pointer) -> bool
     requires { at + 12 ≤ length store.now }
     ensures { result ≡ same_pointer (pointer_of p) (pointer_at store.now at) }
 {
-    let kind = get32(store, at);
-    let from = get32(store, at + 4);
-    let to = get32(store, at + 8);
-    (p.kind == kind) & (p.from == from) & (p.to == to)
+    p == get_pointer(store, at)
 }
 
 // Whether the expression n has the pointer p. Of sort 0 there is none, whatever its row of pointers holds.
