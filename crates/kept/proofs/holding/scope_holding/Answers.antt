@@ -20,12 +20,6 @@ pub returns-then-holds_name : goal.returns-then-holds_name
 unfolding scope_of
 returns-then-holds_name c = scope_found _ _ _ _ _ c.in_use-n.ensures c.loop-i.invariant _ c.loop-i-test.true c.holds_name.ensures c.if-holds_name.true
 
-pub overflow_add-i : goal.overflow_add-i
-overflow_add-i c = omega arith
-
-pub loop-i-smaller : goal.loop-i-smaller
-loop-i-smaller c = omega arith
-
 pub loop-i-preserved : goal.loop-i-preserved
 loop-i-preserved c = scope_passed _ _ _ _ _ c.in_use-n.ensures c.loop-i.invariant _ c.loop-i-test.true c.holds_name.ensures c.if-holds_name.false
 

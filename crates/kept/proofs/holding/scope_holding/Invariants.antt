@@ -8,6 +8,3 @@ use Rattle.kept.proofs.holding.scope_holding.Given as goal
 
 abbrev pub invariant-loop-i : goal.invariant-loop-i
 invariant-loop-i l = holder (scopes_in l.store) l.x.0 ≡ holder_from l.x.0 l.i (rows_from (scope_in l.store) l.i l.n)
-
-abbrev pub decreases-loop-i : goal.decreases-loop-i
-decreases-loop-i l = l.n - l.i
