@@ -1,18 +1,9 @@
 -- `kept::holding::holds_name` meets its contract.
 use Rattle.kept.proofs.HoldingLaws.{entered_from, names_begun, name_found, name_passed, name_lacked}
 use Rattle.kept.proofs.ScopeReads.{named, below_cap}
-use mathlib.Core.Path.{refl, sym, ◌∙◌}
+use mathlib.Core.Path.{sym, ◌∙◌}
 use native.Mathlib.Omega.{arith}
 use Rattle.kept.proofs.holding.holds_name.Goals as goal
-
-pub entered_count-n-requires : goal.entered_count-n-requires
-entered_count-n-requires c = c.requires.0
-
-pub in_use-from-requires : goal.in_use-from-requires
-in_use-from-requires c = omega (arith, c.requires, c.wide.ensures)
-
-pub loop-i-init : goal.loop-i-init
-loop-i-init c = refl
 
 pub get32-requires : goal.get32-requires
 get32-requires c = let m = named _ _ _ (below_cap _ _ _ c.entered_count-n.ensures c.loop-i-test.true) in omega (arith, rw c.wide.ensures at c.in_use-from.ensures, c.wide-in-loop-i.ensures, c.wide-in-loop-i-2.ensures)

@@ -1,5 +1,4 @@
 -- The loops of `kept::holding::holds_name`.
-use Prim.Native.Nat.{◌-◌}
 use Rattle.kept.proofs.HoldingLaws.{entered_from}
 use Rattle.layout.specs.Rows.{rows_from}
 use Rattle.spec.specs.Scopes.{is_in}

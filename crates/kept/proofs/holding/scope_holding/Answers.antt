@@ -7,9 +7,6 @@ use Rattle.words.specs.Words.{word}
 use native.Mathlib.Omega.{arith}
 use Rattle.kept.proofs.holding.scope_holding.Goals as goal
 
-pub in_use-n-requires : goal.in_use-n-requires
-in_use-n-requires c = omega (arith, c.requires)
-
 pub loop-i-init : goal.loop-i-init
 loop-i-init c = scopes_begun _ _ _ c.in_use-n.ensures
 

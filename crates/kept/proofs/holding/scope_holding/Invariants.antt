@@ -1,5 +1,4 @@
 -- The loops of `kept::holding::scope_holding`.
-use Prim.Native.Nat.{◌-◌}
 use Rattle.layout.specs.Keeps.{scope_in, scopes_in}
 use Rattle.layout.specs.Rows.{rows_from}
 use Rattle.spec.specs.Scopes.{holder, holder_from}

@@ -1,5 +1,4 @@
 -- The loops of `kept::scopes::clear_uses`.
-use Prim.Native.Nat.{◌-◌, ◌≤◌}
 use Rattle.kept.specs.Walks.{Unplaced}
 use Rattle.kept.proofs.scopes.clear_uses.Given as goal
 
