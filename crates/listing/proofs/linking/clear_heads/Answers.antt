@@ -3,14 +3,5 @@ use Rattle.listing.proofs.LinkLaws.{unheaded_none, unheaded_more, unheaded_done}
 use native.Mathlib.Omega.{arith}
 use Rattle.listing.proofs.linking.clear_heads.Goals as goal
 
-pub loop-x-init : goal.loop-x-init
-loop-x-init c = unheaded_none _
-
-pub put32-requires : goal.put32-requires
-put32-requires c = omega (arith, c.loop-x.invariant.wrote.size)
-
 pub loop-x-preserved : goal.loop-x-preserved
 loop-x-preserved c = unheaded_more _ _ _ _ c.requires.0 (omega arith) c.loop-x.invariant (rw c.wide.ensures at c.put32.ensures)
-
-pub returns : goal.returns
-returns c = unheaded_done _ _ _ _ c.loop-x.invariant c.loop-x.auto.x-end c.loop-x-test.false

@@ -6,9 +6,6 @@ use Rattle.listing.proofs.linking.link_all.Goals as goal
 pub loop-e-init : goal.loop-e-init
 loop-e-init c = linking_none _ _ _ _ c.get32.ensures c.at_most-count.ensures.0
 
-pub link_one-requires : goal.link_one-requires
-link_one-requires c = (omega (arith, c.requires.0, c.loop-e.invariant.wrote.size), omega arith, c.requires.1)
-
 pub loop-e-preserved : goal.loop-e-preserved
 loop-e-preserved c = linking_more _ _ _ _ _ c.loop-e-test.true c.loop-e.invariant c.link_one.ensures
 
