@@ -13,4 +13,4 @@ pub loop-e-preserved : goal.loop-e-preserved
 loop-e-preserved c = afresh_more _ _ _ _ c.loop-e.invariant c.answer_afresh.ensures
 
 pub returns : goal.returns
-returns c = afresh_done _ _ _ _ c.loop-e.invariant c.loop-e.auto.e-end c.loop-e-test.false c.expr_count-n.ensures.0
+returns c = afresh_done _ _ _ _ c.loop-e.invariant c.loop-e.auto.e-end c.loop-e-test.false c.expr_count-e-end.ensures.0
