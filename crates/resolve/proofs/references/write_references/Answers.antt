@@ -3,14 +3,8 @@ use Rattle.resolve.proofs.ReferenceLaws.{copying_none, copying_more, copying_los
 use native.Mathlib.Omega.{arith}
 use Rattle.resolve.proofs.references.write_references.Goals as goal
 
-pub loop-i-init : goal.loop-i-init
-loop-i-init c = copying_none _ _
-
 pub returns-in_default : goal.returns-in_default
 returns-in_default c = copying_lost _ _ _ _ c.loop-i.invariant _ c.reference_at.ensures (omega (arith, c.requires.1.0, c.loop-i-test.true)) c.in_default.is
-
-pub put32-requires : goal.put32-requires
-put32-requires c = omega (arith, c.requires.1.1, c.loop-i.invariant.size, c.loop-i-test.true, c.wide.ensures)
 
 pub loop-i-preserved : goal.loop-i-preserved
 loop-i-preserved c = copying_more _ _ _ _ c.loop-i.invariant _ c.reference_at.ensures _ _ c.in-Expr.is (rw c.wide.ensures at c.put32.ensures)
