@@ -6,7 +6,7 @@ ghost use Rattle.answer.specs.Answers.{meant_by};
 use module::NameId;
 
 // What a Reference means.
-#[derive(Clone, Copy)]
+#[derive(Clone, Copy, PartialEq, Eq)]
 pub enum Answer {
     Unresolved,
     Definition(NameId),

@@ -442,9 +442,6 @@ module _ (s : List ℕ) (n first i x : ℕ) (l : Long s) (en : n ≡ cap (word s
         }
 
 -- ---- clearing
-pub unplaced_none : (s : List ℕ) → Unplaced 0 s s
-unplaced_none s = record { wrote = wrote_none ((uses_at, scopes_at) ∷ []) s; still = record { same = refl; used = refl }; gone = λ e h. absurd (omega arith) }
-
 pub unplaced_more : (s u t : List ℕ) (e : ℕ) → Long s → e < expr_limit → Unplaced e s u → t ≡ set_word u (uses_at + use_row * e) 0 → Unplaced (e + 1) s t
 unfolding Outside
 unplaced_more s u t e l h d et =
@@ -461,9 +458,6 @@ unplaced_more s u t e l h d et =
     gone k false q z =
         let m : k ≡ e = omega (arith, ltb-false k e q) in
         rw (m, et) (word_set_word_same u (uses_at + use_row * e) 0 (omega (arith, d.wrote.size)) (omega arith))
-
-pub unplaced_done : (s t : List ℕ) (e n : ℕ) → Unplaced e s t → e ≤ n → n ≤ e → Unplaced n s t
-unplaced_done s t e n d a b = let q : e ≡ n = omega arith in rw q at d
 
 rows_all : {A : Type 0} (x : A) (n : ℕ) → rows_to (λ i. x) n ≡ replicate n x
 unfolding rows_to

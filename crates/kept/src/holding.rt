@@ -20,12 +20,10 @@ fn holds_name(store: &[u8], s: ScopeId, x: NameId) -> bool
 {
     let n = entered_count(store, s);
     let from = in_use(store, SCOPES + SCOPE_ROW * wide(s.0), NAME_LIMIT);
-    let mut i: u32 = 0;
-    while i < n {
+    for i in 0..n {
         if x.0 == get32(store, ENTERED + 4 * (wide(from) + wide(i))) {
             return true;
         }
-        i += 1;
     }
     false
 }
@@ -36,12 +34,10 @@ pub fn scope_holding(store: &[u8], x: NameId) -> Option<ScopeId>
     ensures { scope_of result ≡ holder (scopes_in store.now) x.0 }
 {
     let n = in_use(store, SCOPE_COUNT, SCOPE_LIMIT);
-    let mut i: u32 = 0;
-    while i < n {
+    for i in 0..n {
         if holds_name(store, ScopeId(i), x) {
             return Some(ScopeId(i));
         }
-        i += 1;
     }
     None
 }

@@ -111,10 +111,8 @@ fn clear_uses(store: &mut [u8], n: u32)
     requires { Long store.old × (n ≤ expr_limit) }
     ensures { Unplaced n store.old store.new }
 {
-    let mut e: u32 = 0;
-    while e < n {
+    for e in 0..n {
         put32(store, USES + USE_ROW * wide(e), 0);
-        e += 1;
     }
 }
 

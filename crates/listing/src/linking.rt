@@ -15,10 +15,8 @@ fn clear_heads(store: &mut [u8], n: u32)
     requires { Long store.old × (n ≤ name_limit) }
     ensures { Unheaded n store.old store.new }
 {
-    let mut x: u32 = 0;
-    while x < n {
+    for x in 0..n {
         put32(store, HEADS + 4 * wide(x), 0);
-        x += 1;
     }
 }
 
@@ -46,10 +44,8 @@ fn link_all(store: &mut [u8], n: u32)
     ensures { LinksAll n store.old store.new }
 {
     let count = at_most(get32(store, EXPR_COUNT), EXPR_LIMIT);
-    let mut left = count;
-    while 0 < left {
-        link_one(store, ExprId(left - 1), n);
-        left -= 1;
+    for e in (0..count).rev() {
+        link_one(store, ExprId(e), n);
     }
 }
 

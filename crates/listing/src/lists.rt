@@ -19,6 +19,7 @@ fn list_one(store: &mut [u8], x: NameId)
 {
     let mut next = get32(store, HEADS + 4 * wide(x.0));
     let mut i: u32 = 0;
+    // No `for`: the body writes the store that the links are read from, and how many there were is asked after it.
     while next != 0 {
         let e = next - 1;
         add_reference(store, x, i, ExprId(e));
@@ -33,10 +34,8 @@ fn list_all(store: &mut [u8], n: u32)
     requires { Long store.old × (n ≤ name_limit) × Linked n 0 store.old × Listed 0 store.old }
     ensures { ListsAll n store.old store.new }
 {
-    let mut x: u32 = 0;
-    while x < n {
+    for x in 0..n {
         list_one(store, NameId(x));
-        x += 1;
     }
 }
 

@@ -7,7 +7,7 @@ pub struct NodeId(pub u32);
 #[derive(Clone, Copy)]
 pub struct ExprId(pub u32);
 
-#[derive(Clone, Copy)]
+#[derive(Clone, Copy, PartialEq, Eq)]
 pub struct NameId(pub u32);
 
 #[derive(Clone, Copy)]

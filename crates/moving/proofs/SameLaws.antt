@@ -1,12 +1,11 @@
 -- Answers held against each other. Assumes nothing.
 use Rattle.std.specs.Prelude.{if◌then◌else◌}
 use mathlib.Core.Path.{◌≡◌, refl, sym, ap, ◌∙◌}
-use mathlib.Core.Bool.{Bool, true, false, ◌&&◌, and-true}
+use mathlib.Core.Bool.{Bool, true, false, and-true}
 use mathlib.Core.List.{List}
 use mathlib.Core.Option.{none, some}
 use Prim.Native.Nat.{ℕ}
 use lib.Dec.{eqb}
-use borrow.Author.Tests.{eq-eqb, ne_eqb}
 use Rattle.words.specs.Equality.{equalb}
 use Rattle.words.proofs.EqualityLaws.{equalb_refl}
 use Rattle.spec.specs.Basics.{ExprId}
@@ -16,41 +15,34 @@ use Rattle.spec.specs.Kept.{kept_answer}
 use Rattle.layout.specs.Keeps.{scopes_in, kept_in}
 use Rattle.answer.specs.declared.answer.Answer.{Answer}
 use Rattle.answer.specs.declared.answer.Answer.TheVariants.{Unresolved, Definition, Builtin, Withs}
+use Rattle.answer.specs.contracts.answer.AnswerPartialEq.TheImpl.{ghosts}
 use Rattle.answer.specs.Answers.{answer_with, maybe_with}
-use Rattle.answer.specs.Told.{number_of, value_of, Tells}
 use Rattle.kept.specs.Answers.{withs_at}
 use Rattle.moving.specs.Moving.{SameHere, OtherThan}
 use Rattle.std.specs.Prelude as rust
 
--- answers at one place are the same where their numbers and their values are
-by_numbers : (a b : Answer) (es : List ExprId)
-    → same_answer (some (answer_with a es)) (some (answer_with b es))
-    ≡ (eqb (number_of (answer_with a es)) (number_of (answer_with b es)) && eqb (value_of (answer_with a es)) (value_of (answer_with b es)))
-unfolding same_answer numbers_of equalb answer_with number_of value_of
-by_numbers Unresolved Unresolved es = refl
-by_numbers Unresolved (Definition y) es = refl
-by_numbers Unresolved (Builtin j) es = refl
-by_numbers Unresolved Withs es = refl
-by_numbers (Definition x) Unresolved es = refl
-by_numbers (Definition x) (Definition y) es = and-true (eqb x.0 y.0)
-by_numbers (Definition x) (Builtin j) es = refl
-by_numbers (Definition x) Withs es = refl
-by_numbers (Builtin i) Unresolved es = refl
-by_numbers (Builtin i) (Definition y) es = refl
-by_numbers (Builtin i) (Builtin j) es = and-true (eqb i j)
-by_numbers (Builtin i) Withs es = refl
-by_numbers Withs Unresolved es = refl
-by_numbers Withs (Definition y) es = refl
-by_numbers Withs (Builtin j) es = refl
-by_numbers Withs Withs es = equalb_refl es
-
-module _ {a b : Answer} {n m : ℕ} (p : Tells number_of a n) (q : Tells number_of b m) where
-  pub other_number : (n ≡ m → ⊥) → SameHere a b false
-  other_number h = record { says = λ es. sym (by_numbers a b es ∙ rw (← p.says es, ← q.says es, ne_eqb n m h)) }
-
-  pub same_number : n ≡ m → {u v : ℕ} → Tells value_of a u → Tells value_of b v → {r : Bool} → r ≡ eqb u v → SameHere a b r
-  same_number h f g e =
-      record { says = λ es. e ∙ sym (by_numbers a b es ∙ rw (← p.says es, ← q.says es, eq-eqb n m h, ← f.says es, ← g.says es)) }
+-- answers at one place are the same where they are equal: their Withs are those of the place
+pub same_here : (a b : Answer) → SameHere a b (ghosts.eq a b)
+unfolding same_answer numbers_of equalb answer_with
+same_here a b = record { says = go a b }
+  where
+    go : (a b : Answer) (es : List ExprId) → ghosts.eq a b ≡ same_answer (some (answer_with a es)) (some (answer_with b es))
+    go Unresolved Unresolved es = refl
+    go Unresolved (Definition y) es = refl
+    go Unresolved (Builtin j) es = refl
+    go Unresolved Withs es = refl
+    go (Definition x) Unresolved es = refl
+    go (Definition x) (Definition y) es = sym (and-true (eqb x.0 y.0))
+    go (Definition x) (Builtin j) es = refl
+    go (Definition x) Withs es = refl
+    go (Builtin i) Unresolved es = refl
+    go (Builtin i) (Definition y) es = refl
+    go (Builtin i) (Builtin j) es = sym (and-true (eqb i j))
+    go (Builtin i) Withs es = refl
+    go Withs Unresolved es = refl
+    go Withs (Definition y) es = refl
+    go Withs (Builtin j) es = refl
+    go Withs Withs es = sym (equalb_refl es)
 
 -- ---- held against the one that is kept
 module _ (s : List ℕ) (e : ℕ) (a : Answer) (k : rust.Option Answer) (kept : maybe_with k (withs_at (scopes_in s) e) ≡ kept_answer (kept_in s) e) where

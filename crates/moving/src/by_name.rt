@@ -54,12 +54,9 @@ pub fn count_moved_by_name(store: &[u8], x: NameId, new: &[u8]) -> u32
     ensures { result ≡ length (moved_by (kept_in store.now) (at_name x.0) new.now) }
 {
     let name = find_name(store, x);
-    let n = expr_count(store);
-    let mut e: u32 = 0;
     let mut count: u32 = 0;
-    while e < n {
+    for e in 0..expr_count(store) {
         count += count_one(store, ExprId(e), name, new);
-        e += 1;
     }
     count
 }
@@ -88,12 +85,9 @@ fn move_answers(store: &mut [u8], x: NameId, new: &[u8], moved: &mut [u8])
     ensures { MovesAnswers (at_name x.0) new.now store.old moved.old store.new moved.new }
 {
     let name = find_name(store, x);
-    let n = expr_count(store);
-    let mut e: u32 = 0;
     let mut count: usize = 0;
-    while e < n {
+    for e in 0..expr_count(store) {
         count = move_one(store, ExprId(e), name, new, moved, count);
-        e += 1;
     }
 }
 

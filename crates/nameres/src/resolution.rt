@@ -31,11 +31,8 @@ fn answer_all(store: &mut [u8])
     requires { Long store.old }
     ensures { AnswersAll store.old store.new }
 {
-    let n = expr_count(store);
-    let mut e: u32 = 0;
-    while e < n {
+    for e in 0..expr_count(store) {
         answer_afresh(store, ExprId(e));
-        e += 1;
     }
 }
 

@@ -16,13 +16,11 @@ fn write_references(store: &[u8], x: NameId, buffer: &mut [u8], n: u32)
     requires { Long store.now × ((n ≡ length (kept_references (kept_in store.now) x.0)) × (4 * n ≤ length buffer.old)) }
     ensures { buffer.new ≡ set_all buffer.old 0 (kept_references (kept_in store.now) x.0) }
 {
-    let mut i: u32 = 0;
-    while i < n {
+    for i in 0..n {
         let Some(e) = reference_at(store, x, i) else {
             return;
         };
         put32(buffer, 4 * wide(i), e.0);
-        i += 1;
     }
 }
 

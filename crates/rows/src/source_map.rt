@@ -9,7 +9,7 @@ ghost use Rattle.layout.specs.States.{module_in};
 
 use crate::read_counts::{expr_count, name_count};
 use layout::tables::{EXPR_POINTERS, EXPR_ROW, EXPRS, NAME_POINTERS, POINTER_ROW};
-use layout::wide;
+use layout::{get_pointer, wide};
 use module::{ExprId, NameId, Pointer};
 use words::get32;
 
@@ -18,10 +18,7 @@ fn same_pointer(store: &[u8], at: usize, p: Pointer) -> bool
     requires { at + 12 ≤ length store.now }
     ensures { result ≡ same_pointer (pointer_of p) (pointer_at store.now at) }
 {
-    let kind = get32(store, at);
-    let from = get32(store, at + 4);
-    let to = get32(store, at + 8);
-    (p.kind == kind) & (p.from == from) & (p.to == to)
+    p == get_pointer(store, at)
 }
 
 // Whether the expression n has the pointer p. Of sort 0 there is none, whatever its row of pointers holds.
@@ -39,9 +36,7 @@ pub fn expr_for_node(store: &[u8], p: Pointer) -> Option<ExprId>
     requires { Long store.now }
     ensures { expr_of result ≡ expr_for_node (module_in store.now) (pointer_of p) }
 {
-    let mut n = expr_count(store);
-    while 0 < n {
-        n -= 1;
+    for n in (0..expr_count(store)).rev() {
         if expr_points(store, ExprId(n), p) {
             return Some(ExprId(n));
         }
@@ -53,9 +48,7 @@ pub fn name_for_node(store: &[u8], p: Pointer) -> Option<NameId>
     requires { Long store.now }
     ensures { name_of result ≡ name_for_node (module_in store.now) (pointer_of p) }
 {
-    let mut n = name_count(store);
-    while 0 < n {
-        n -= 1;
+    for n in (0..name_count(store)).rev() {
         if same_pointer(store, NAME_POINTERS + POINTER_ROW * wide(n), p) {
             return Some(NameId(n));
         }

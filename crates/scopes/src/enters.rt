@@ -101,13 +101,10 @@ fn enter_items(store: &mut [u8], e: ExprId, names: Names, n: u32) -> u32
     requires { Long store.old × (n ≤ 1) }
     ensures { Enters n (entered names (module_in store.old) (items_at_expr store.old e.0)) store.old result store.new }
 {
-    let count = item_count(store, e);
     let mut next = n;
-    let mut i: u32 = 0;
-    while i < count {
+    for i in 0..item_count(store, e) {
         let x = name_entered(store, e, i, names);
         next = enter_maybe(store, next, x);
-        i += 1;
     }
     next
 }

@@ -121,12 +121,9 @@ fn walk_items(store: &mut [u8], e: ExprId, pass: Pass, scope: ScopeId)
     requires { Long store.old }
     ensures { Follows e.0 scope.0 (picked pass (items_at_expr store.old e.0)) store.old store.new }
 {
-    let count = item_count(store, e);
-    let mut i: u32 = 0;
-    while i < count {
+    for i in 0..item_count(store, e) {
         let handed = pick_item(store, e, i, pass);
         walk_picks(store, e, handed, scope);
-        i += 1;
     }
 }
 

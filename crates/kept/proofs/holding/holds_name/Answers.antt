@@ -1,42 +1,9 @@
 -- `kept::holding::holds_name` meets its contract.
 use Rattle.kept.proofs.HoldingLaws.{entered_from, names_begun, name_found, name_passed, name_lacked}
 use Rattle.kept.proofs.ScopeReads.{named, below_cap}
-use mathlib.Core.Path.{refl, sym, ◌∙◌}
+use mathlib.Core.Path.{sym, ◌∙◌}
 use native.Mathlib.Omega.{arith}
 use Rattle.kept.proofs.holding.holds_name.Goals as goal
-
-pub entered_count-n-requires : goal.entered_count-n-requires
-entered_count-n-requires c = c.requires.0
-
-pub wide-requires : goal.wide-requires
-wide-requires c = omega arith
-
-pub overflow_mul-wide : goal.overflow_mul-wide
-overflow_mul-wide c = omega arith
-
-pub overflow_add-wide : goal.overflow_add-wide
-overflow_add-wide c = omega arith
-
-pub in_use-from-requires : goal.in_use-from-requires
-in_use-from-requires c = omega (arith, c.requires, c.wide.ensures)
-
-pub loop-i-init : goal.loop-i-init
-loop-i-init c = refl
-
-pub wide-requires-in-loop-i : goal.wide-requires-in-loop-i
-wide-requires-in-loop-i c = omega arith
-
-pub wide-requires-in-loop-i-2 : goal.wide-requires-in-loop-i-2
-wide-requires-in-loop-i-2 c = omega arith
-
-pub overflow_add-wide-in-loop-i : goal.overflow_add-wide-in-loop-i
-overflow_add-wide-in-loop-i c = omega arith
-
-pub overflow_mul-wide-in-loop-i : goal.overflow_mul-wide-in-loop-i
-overflow_mul-wide-in-loop-i c = omega arith
-
-pub overflow_add-wide-in-loop-i-2 : goal.overflow_add-wide-in-loop-i-2
-overflow_add-wide-in-loop-i-2 c = omega arith
 
 pub get32-requires : goal.get32-requires
 get32-requires c = let m = named _ _ _ (below_cap _ _ _ c.entered_count-n.ensures c.loop-i-test.true) in omega (arith, rw c.wide.ensures at c.in_use-from.ensures, c.wide-in-loop-i.ensures, c.wide-in-loop-i-2.ensures)
@@ -44,12 +11,6 @@ get32-requires c = let m = named _ _ _ (below_cap _ _ _ c.entered_count-n.ensure
 pub returns-then-x-get32 : goal.returns-then-x-get32
 unfolding entered_from
 returns-then-x-get32 c = name_found _ _ _ _ _ c.loop-i.invariant c.loop-i-test.true (c.if-x-get32.true ∙ rw (c.wide-in-loop-i.ensures, c.wide-in-loop-i-2.ensures) at c.get32.ensures) ∙ sym (names_begun _ _ _ _ _ c.entered_count-n.ensures (rw c.wide.ensures at c.in_use-from.ensures))
-
-pub overflow_add-i : goal.overflow_add-i
-overflow_add-i c = omega arith
-
-pub loop-i-smaller : goal.loop-i-smaller
-loop-i-smaller c = omega arith
 
 pub loop-i-preserved : goal.loop-i-preserved
 unfolding entered_from

@@ -1,5 +1,4 @@
 -- The loops of `kept::holding::holds_name`.
-use Prim.Native.Nat.{◌-◌}
 use Rattle.kept.proofs.HoldingLaws.{entered_from}
 use Rattle.layout.specs.Rows.{rows_from}
 use Rattle.spec.specs.Scopes.{is_in}
@@ -8,6 +7,3 @@ use Rattle.kept.proofs.holding.holds_name.Given as goal
 
 abbrev pub invariant-loop-i : goal.invariant-loop-i
 invariant-loop-i l = is_in l.x.0 (rows_from (entered_from l.store l.from) 0 l.n) ≡ is_in l.x.0 (rows_from (entered_from l.store l.from) l.i l.n)
-
-abbrev pub decreases-loop-i : goal.decreases-loop-i
-decreases-loop-i l = l.n - l.i

@@ -7,9 +7,6 @@ use Rattle.words.specs.Words.{word}
 use native.Mathlib.Omega.{arith}
 use Rattle.kept.proofs.holding.scope_holding.Goals as goal
 
-pub in_use-n-requires : goal.in_use-n-requires
-in_use-n-requires c = omega (arith, c.requires)
-
 pub loop-i-init : goal.loop-i-init
 loop-i-init c = scopes_begun _ _ _ c.in_use-n.ensures
 
@@ -19,12 +16,6 @@ holds_name-requires c = (c.requires, omega (arith, c.loop-i-test.true, c.in_use-
 pub returns-then-holds_name : goal.returns-then-holds_name
 unfolding scope_of
 returns-then-holds_name c = scope_found _ _ _ _ _ c.in_use-n.ensures c.loop-i.invariant _ c.loop-i-test.true c.holds_name.ensures c.if-holds_name.true
-
-pub overflow_add-i : goal.overflow_add-i
-overflow_add-i c = omega arith
-
-pub loop-i-smaller : goal.loop-i-smaller
-loop-i-smaller c = omega arith
 
 pub loop-i-preserved : goal.loop-i-preserved
 loop-i-preserved c = scope_passed _ _ _ _ _ c.in_use-n.ensures c.loop-i.invariant _ c.loop-i-test.true c.holds_name.ensures c.if-holds_name.false

@@ -1,10 +1,6 @@
 -- The loops of `kept::scopes::clear_uses`.
-use Prim.Native.Nat.{◌-◌, ◌≤◌}
 use Rattle.kept.specs.Walks.{Unplaced}
 use Rattle.kept.proofs.scopes.clear_uses.Given as goal
 
 abbrev pub invariant-loop-e : goal.invariant-loop-e
-invariant-loop-e l = Unplaced l.e l.initial.store l.store × (l.e ≤ l.n)
-
-abbrev pub decreases-loop-e : goal.decreases-loop-e
-decreases-loop-e l = l.n - l.e
+invariant-loop-e l = Unplaced l.e l.initial.store l.store

@@ -1,10 +1,7 @@
--- The loops of `listing::linking::clear_heads`.
+-- The loop of `listing::linking::clear_heads`.
 use Prim.Native.Nat.{◌-◌, ◌≤◌}
 use Rattle.listing.specs.Links.{Unheaded}
 use Rattle.listing.proofs.linking.clear_heads.Given as goal
 
 abbrev pub invariant-loop-x : goal.invariant-loop-x
-invariant-loop-x l = Unheaded l.x l.initial.store l.store × (l.x ≤ l.n)
-
-abbrev pub decreases-loop-x : goal.decreases-loop-x
-decreases-loop-x l = l.n - l.x
+invariant-loop-x l = Unheaded l.x l.initial.store l.store

@@ -3,29 +3,8 @@ use Rattle.listing.proofs.ListingLaws.{walking_none, walking_next, walking_more,
 use native.Mathlib.Omega.{arith}
 use Rattle.listing.proofs.lists.list_one.Goals as goal
 
-pub wide-requires : goal.wide-requires
-wide-requires c = omega arith
-
-pub overflow_mul-wide : goal.overflow_mul-wide
-overflow_mul-wide c = omega (arith, c.requires.1.name, c.wide.ensures)
-
-pub overflow_add-wide : goal.overflow_add-wide
-overflow_add-wide c = omega (arith, c.requires.1.name, c.wide.ensures)
-
-pub get32-next-requires : goal.get32-next-requires
-get32-next-requires c = omega (arith, c.requires.0, c.requires.1.name, c.wide.ensures)
-
 pub loop-next-init : goal.loop-next-init
 loop-next-init c = walking_none _ _ _ c.requires.1 (rw c.wide.ensures at c.get32-next.ensures)
-
-pub overflow_sub-e : goal.overflow_sub-e
-overflow_sub-e c = omega arith
-
-pub add_reference-requires : goal.add_reference-requires
-add_reference-requires c = omega (arith, c.requires.0, c.loop-next.invariant.relisted.wrote.size)
-
-pub wide-requires-in-loop-next : goal.wide-requires-in-loop-next
-wide-requires-in-loop-next c = omega arith
 
 pub overflow_mul-wide-in-loop-next : goal.overflow_mul-wide-in-loop-next
 overflow_mul-wide-in-loop-next c = let m = walking_next _ _ _ _ _ c.requires.1 c.loop-next.invariant c.loop-next-test.true in omega (arith, m.low, c.wide-in-loop-next.ensures)
@@ -44,9 +23,6 @@ loop-next-smaller c = let m = walking_next _ _ _ _ _ c.requires.1 c.loop-next.in
 
 pub loop-next-preserved : goal.loop-next-preserved
 loop-next-preserved c = walking_more _ _ _ _ _ _ _ c.requires.1 c.loop-next.invariant c.loop-next-test.true c.add_reference.ensures (rw c.wide-in-loop-next.ensures at c.get32-next-in-loop-next.ensures)
-
-pub end_references-requires : goal.end_references-requires
-end_references-requires c = omega (arith, c.requires.0, c.loop-next.invariant.relisted.wrote.size)
 
 pub returns : goal.returns
 returns c = walking_done _ _ _ _ _ _ c.requires.1 c.loop-next.invariant c.loop-next-test.false c.end_references.ensures

@@ -1,10 +1,8 @@
 -- `moving::same::same_answer` meets its contract.
-use Rattle.moving.proofs.SameLaws.{other_number, same_number}
-use mathlib.Core.Path.{refl}
+use Rattle.std.proofs.Common.{◌≡◌}
+use Rattle.answer.specs.contracts.answer.AnswerPartialEq.TheImpl.{ghosts}
+use Rattle.moving.proofs.SameLaws.{same_here}
 use Rattle.moving.proofs.same.same_answer.Goals as goal
 
-pub returns-then-answer_number : goal.returns-then-answer_number
-returns-then-answer_number c = other_number c.answer_number.ensures c.answer_number-2.ensures c.if-answer_number.true
-
 pub returns : goal.returns
-returns c = same_number c.answer_number.ensures c.answer_number-2.ensures c.if-answer_number.false c.answer_value.ensures c.answer_value-2.ensures refl
+returns c = let e : c.eq.result ≡ ghosts.eq c.args.a c.args.b = c.eq.ensures in rw e (same_here _ _)

@@ -1,10 +1,7 @@
--- The loops of `nameres::resolution::answer_all`.
+-- The loop of `nameres::resolution::answer_all`.
 use Prim.Native.Nat.{◌-◌, ◌≤◌}
 use Rattle.nameres.specs.Resolution.{AnswersFirst}
 use Rattle.nameres.proofs.resolution.answer_all.Given as goal
 
 abbrev pub invariant-loop-e : goal.invariant-loop-e
-invariant-loop-e l = AnswersFirst l.e l.initial.store l.store × (l.e ≤ l.n)
-
-abbrev pub decreases-loop-e : goal.decreases-loop-e
-decreases-loop-e l = l.n - l.e
+invariant-loop-e l = AnswersFirst l.e l.initial.store l.store

@@ -3,32 +3,11 @@ use Rattle.resolve.proofs.ReferenceLaws.{copying_none, copying_more, copying_los
 use native.Mathlib.Omega.{arith}
 use Rattle.resolve.proofs.references.write_references.Goals as goal
 
-pub loop-i-init : goal.loop-i-init
-loop-i-init c = (copying_none _ _, omega arith)
-
-pub reference_at-requires : goal.reference_at-requires
-reference_at-requires c = c.requires.0
-
 pub returns-in_default : goal.returns-in_default
-returns-in_default c = copying_lost _ _ _ _ c.loop-i.invariant.0 _ c.reference_at.ensures (omega (arith, c.requires.1.0, c.loop-i-test.true)) c.in_default.is
-
-pub wide-requires : goal.wide-requires
-wide-requires c = omega arith
-
-pub overflow_mul-wide : goal.overflow_mul-wide
-overflow_mul-wide c = omega arith
-
-pub put32-requires : goal.put32-requires
-put32-requires c = omega (arith, c.requires.1.1, c.loop-i.invariant.0.size, c.loop-i-test.true, c.wide.ensures)
-
-pub overflow_add-i : goal.overflow_add-i
-overflow_add-i c = omega arith
-
-pub loop-i-smaller : goal.loop-i-smaller
-loop-i-smaller c = omega arith
+returns-in_default c = copying_lost _ _ _ _ c.loop-i.invariant _ c.reference_at.ensures (omega (arith, c.requires.1.0, c.loop-i-test.true)) c.in_default.is
 
 pub loop-i-preserved : goal.loop-i-preserved
-loop-i-preserved c = (copying_more _ _ _ _ c.loop-i.invariant.0 _ c.reference_at.ensures _ _ c.in-Some.is (rw c.wide.ensures at c.put32.ensures), omega arith)
+loop-i-preserved c = copying_more _ _ _ _ c.loop-i.invariant _ c.reference_at.ensures _ _ c.in-Some.is (rw c.wide.ensures at c.put32.ensures)
 
 pub returns : goal.returns
-returns c = copying_done _ _ _ _ c.loop-i.invariant.0 (omega (arith, c.requires.1.0, c.loop-i-test.false))
+returns c = copying_done _ _ _ _ c.loop-i.invariant (omega (arith, c.requires.1.0, c.loop-i-test.false))

@@ -1,6 +1,4 @@
--- The loops of `rows::source_map::expr_for_node`.
-use Prim.Native.Nat.{◌≤◌}
-use Rattle.layout.specs.Layout.{expr_limit}
+-- The loop of `rows::source_map::expr_for_node`.
 use Rattle.layout.specs.States.{module_in}
 use Rattle.module.specs.Ids.{pointer_of}
 use Rattle.rows.proofs.SourceMapLaws.{last_of, expr_pointer}
@@ -9,7 +7,4 @@ use mathlib.Core.Path.{◌≡◌}
 use Rattle.rows.proofs.source_map.expr_for_node.Given as goal
 
 abbrev pub invariant-loop-n : goal.invariant-loop-n
-invariant-loop-n l = (expr_for_node (module_in l.store) (pointer_of l.p) ≡ last_of (pointer_of l.p) (expr_pointer l.store) l.n) × (l.n ≤ expr_limit)
-
-abbrev pub decreases-loop-n : goal.decreases-loop-n
-decreases-loop-n l = l.n
+invariant-loop-n l = expr_for_node (module_in l.store) (pointer_of l.p) ≡ last_of (pointer_of l.p) (expr_pointer l.store) l.n

@@ -1,6 +1,4 @@
--- The loops of `rows::source_map::name_for_node`.
-use Prim.Native.Nat.{◌≤◌}
-use Rattle.layout.specs.Layout.{name_limit}
+-- The loop of `rows::source_map::name_for_node`.
 use Rattle.layout.specs.States.{module_in}
 use Rattle.module.specs.Ids.{pointer_of}
 use Rattle.rows.proofs.SourceMapLaws.{last_of, name_pointer}
@@ -9,7 +7,4 @@ use mathlib.Core.Path.{◌≡◌}
 use Rattle.rows.proofs.source_map.name_for_node.Given as goal
 
 abbrev pub invariant-loop-n : goal.invariant-loop-n
-invariant-loop-n l = (name_for_node (module_in l.store) (pointer_of l.p) ≡ last_of (pointer_of l.p) (name_pointer l.store) l.n) × (l.n ≤ name_limit)
-
-abbrev pub decreases-loop-n : goal.decreases-loop-n
-decreases-loop-n l = l.n
+invariant-loop-n l = name_for_node (module_in l.store) (pointer_of l.p) ≡ last_of (pointer_of l.p) (name_pointer l.store) l.n

@@ -3,26 +3,11 @@ use Rattle.scopes.proofs.EnterLaws.{enters_start, enters_bound, enters_turn, ent
 use native.Mathlib.Omega.{arith}
 use Rattle.scopes.proofs.enters.enter_items.Goals as goal
 
-pub item_count-count-requires : goal.item_count-count-requires
-item_count-count-requires c = omega (arith, c.requires.0)
-
 pub loop-i-init : goal.loop-i-init
 loop-i-init c = enters_start _ _ _ c.args.e.0 _
 
-pub name_entered-x-requires : goal.name_entered-x-requires
-name_entered-x-requires c = omega (arith, c.requires.0, c.loop-i.invariant.wrote.size)
-
 pub enter_maybe-next-requires : goal.enter_maybe-next-requires
-enter_maybe-next-requires c = (omega (arith, c.requires.0, c.loop-i.invariant.wrote.size), omega (arith, c.requires.1, c.item_count-count.ensures.1, c.loop-i-test.true, enters_bound _ _ c.item_count-count.ensures.0 c.loop-i.invariant c.loop-i-test.true))
-
-pub overflow_add-i : goal.overflow_add-i
-overflow_add-i c = omega (arith, c.item_count-count.ensures.1, c.loop-i-test.true)
-
-pub loop-i-smaller : goal.loop-i-smaller
-loop-i-smaller c = omega (arith, c.loop-i-test.true)
+enter_maybe-next-requires c = (omega (arith, c.requires.0, c.loop-i.invariant.wrote.size), omega (arith, c.requires.1, c.item_count-i-end.ensures.1, c.loop-i-test.true, enters_bound _ _ c.item_count-i-end.ensures.0 c.loop-i.invariant c.loop-i-test.true))
 
 pub loop-i-preserved : goal.loop-i-preserved
-loop-i-preserved c = enters_turn _ _ c.item_count-count.ensures.0 c.loop-i.invariant _ c.loop-i-test.true c.name_entered-x.ensures c.enter_maybe-next.ensures
-
-pub returns : goal.returns
-returns c = enters_end _ _ c.item_count-count.ensures.0 c.loop-i.invariant c.loop-i-test.false
+loop-i-preserved c = enters_turn _ _ c.item_count-i-end.ensures.0 c.loop-i.invariant _ c.loop-i-test.true c.name_entered-x.ensures c.enter_maybe-next.ensures

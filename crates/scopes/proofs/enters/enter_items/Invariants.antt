@@ -1,5 +1,4 @@
--- The loops of `scopes::enters::enter_items`.
-use Prim.Native.Nat.{◌-◌}
+-- The loop of `scopes::enters::enter_items`.
 use Rattle.layout.specs.States.{module_in}
 use Rattle.rows.specs.Readers.{items_at_expr}
 use Rattle.scopes.specs.Entering.{entered, Enters}
@@ -8,6 +7,3 @@ use Rattle.scopes.proofs.enters.enter_items.Given as goal
 
 abbrev pub invariant-loop-i : goal.invariant-loop-i
 invariant-loop-i l = Enters l.n (entered l.names (module_in l.initial.store) (take l.i (items_at_expr l.initial.store l.e.0))) l.initial.store l.next l.store
-
-abbrev pub decreases-loop-i : goal.decreases-loop-i
-decreases-loop-i l = l.count - l.i

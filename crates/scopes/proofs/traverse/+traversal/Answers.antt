@@ -201,9 +201,6 @@ walk_defaults-returns-in-Ellipsis t c = rw c.in-Ellipsis.is c.walk_items-in-Elli
 
 -- ---- walk_items
 
-pub walk_items-item_count-count-requires : goal.walk_items-item_count-count-requires
-walk_items-item_count-count-requires t c = omega (arith, c.requires)
-
 pub walk_items-loop-i-init : goal.walk_items-loop-i-init
 walk_items-loop-i-init t c = items_start _ _ _ _
 
@@ -213,17 +210,11 @@ walk_items-pick_item-handed-requires t c = omega (arith, c.requires, c.loop-i.in
 pub walk_items-walk_picks-requires : goal.walk_items-walk_picks-requires
 walk_items-walk_picks-requires t c = (omega (arith, c.decreases), omega (arith, c.requires, c.loop-i.invariant.all.wrote.size))
 
-pub walk_items-overflow_add-i : goal.walk_items-overflow_add-i
-walk_items-overflow_add-i t c = omega (arith, c.item_count-count.ensures.1, c.loop-i-test.true)
-
-pub walk_items-loop-i-smaller : goal.walk_items-loop-i-smaller
-walk_items-loop-i-smaller t c = omega (arith, c.loop-i-test.true)
-
 pub walk_items-loop-i-preserved : goal.walk_items-loop-i-preserved
-walk_items-loop-i-preserved t c = items_turn _ c.item_count-count.ensures.0 c.loop-i.invariant _ c.loop-i-test.true c.pick_item-handed.ensures c.walk_picks.ensures
+walk_items-loop-i-preserved t c = items_turn _ c.item_count-i-end.ensures.0 c.loop-i.invariant _ c.loop-i-test.true c.pick_item-handed.ensures c.walk_picks.ensures
 
 pub walk_items-returns : goal.walk_items-returns
-walk_items-returns t c = items_end _ c.item_count-count.ensures.0 c.loop-i.invariant c.loop-i-test.false
+walk_items-returns t c = items_end _ c.item_count-i-end.ensures.0 c.loop-i.invariant c.loop-i-test.false
 
 -- ---- walk_path
 

@@ -1,5 +1,5 @@
--- The measures of the cycle `+traversal`, and the loops in it.
-use Prim.Native.Nat.{◌+◌, ◌*◌, ◌-◌}
+-- The measures of the cycle `+traversal`, and the loop in it.
+use Prim.Native.Nat.{◌+◌, ◌*◌}
 use Rattle.rows.specs.Readers.{items_at_expr}
 use Rattle.scopes.specs.Picking.{picked}
 use Rattle.scopes.specs.Walking.{Follows}
@@ -35,6 +35,3 @@ decreases-walk_picks l = 8 * l.e.0 + 2
 
 abbrev pub invariant-walk_items-loop-i : goal.invariant-walk_items-loop-i
 invariant-walk_items-loop-i l = Follows l.e.0 l.scope.0 (picked l.pass (take l.i (items_at_expr l.initial.store l.e.0))) l.initial.store l.store
-
-abbrev pub decreases-walk_items-loop-i : goal.decreases-walk_items-loop-i
-decreases-walk_items-loop-i l = l.count - l.i
