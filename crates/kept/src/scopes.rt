@@ -21,7 +21,7 @@ use layout::tables::{
     ENTERED, EXPR_COUNT, EXPR_LIMIT, NAME_LIMIT, SCOPE_COUNT, SCOPE_LIMIT, SCOPE_ROW, SCOPES,
     USE_ROW, USES,
 };
-use layout::{counter, put_three, wide};
+use layout::{counter, put_words, wide};
 use module::{Counter, ExprId, NameId, ScopeId};
 use words::{get32, put32};
 
@@ -134,12 +134,10 @@ fn put_scope(store: &mut [u8], count: Counter, parent: u32, source: u32, end: u3
     ensures { store.new ≡ set_word (set_all store.old (scopes_at + 4 + scope_row * count.used) (parent ∷ source ∷ end ∷ [])) scope_count (count.used + 1) }
 {
     let next = count.next();
-    put_three(
+    put_words(
         store,
         SCOPES + 4 + SCOPE_ROW * wide(count.used),
-        parent,
-        source,
-        end,
+        [parent, source, end],
     );
     put32(store, SCOPE_COUNT, next.used);
 }

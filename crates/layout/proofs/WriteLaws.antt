@@ -5,8 +5,9 @@ use mathlib.Core.Bool.{Bool, true, false}
 use mathlib.Core.List.{List, [], ◌∷◌}
 use Prim.Native.Nat.{ℕ, zero, suc, ◌+◌, ◌*◌, ◌≤◌, ◌<◌, ◌^◌}
 use native.Mathlib.Omega.{arith}
-use lib.ListN.{length, get_or, drop, set}
+use lib.ListN.{length, get_or, drop, set, drop_of_length-le}
 use lib.Seq.{sets, drop-set-lt}
+use Rattle.std.proofs.lemmas.List.{drop_more}
 use lib.Dec.{ltb}
 use borrow.Author.Tests.{ltb-true, ltb-false}
 use Rattle.words.specs.Runs.{splice}
@@ -94,22 +95,14 @@ all_is s at (w ∷ ws) b l (suc i) h =
 pub all_at : (s : List ℕ) (at : ℕ) (ws : List ℕ) → Small ws → at + 4 * length ws ≤ length s → (i j : ℕ) → i < length ws → j ≡ at + 4 * i → word (set_all s at ws) j ≡ get_or ws i 0
 all_at s at ws b l i j h e = rw e (all_is s at ws b l i h)
 
--- ---- what straight code wrote
-pub two_is : (s s1 t : List ℕ) (at a b : ℕ) → s1 ≡ set_word s at a → t ≡ set_word s1 (at + 4) b → t ≡ set_all s at (a ∷ b ∷ [])
+-- ---- a list of words written one by one: what is left to be written after the word i
+pub words_more : (s t : List ℕ) (at i : ℕ) (ws : List ℕ) → i < length ws → t ≡ set_word s (at + 4 * i) (get_or ws i 0) → set_all s (at + 4 * i) (drop i ws) ≡ set_all t (at + 4 * (i + 1)) (drop (i + 1) ws)
 unfolding set_all
-two_is s s1 t at a b p q = q ∙ ap (λ (x : List ℕ). set_word x (at + 4) b) p
+words_more s t at i ws l e =
+    let next : at + 4 * i + 4 ≡ at + 4 * (i + 1) = omega arith in
+    let one : set_all s (at + 4 * i) (get_or ws i 0 ∷ drop (i + 1) ws) ≡ set_all (set_word s (at + 4 * i) (get_or ws i 0)) (at + 4 * i + 4) (drop (i + 1) ws) = refl in
+    ap (set_all s (at + 4 * i)) (drop_more ws i 0 l) ∙ one ∙ rw (next, e) refl
 
-pub three_is : (s s1 s2 t : List ℕ) (at a b c : ℕ) → s1 ≡ set_word s at a → s2 ≡ set_word s1 (at + 4) b → t ≡ set_word s2 (at + 8) c → t ≡ set_all s at (a ∷ b ∷ c ∷ [])
+pub words_end : (s : List ℕ) (at i : ℕ) (ws : List ℕ) → length ws ≤ i → set_all s at (drop i ws) ≡ s
 unfolding set_all
-three_is s s1 s2 t at a b c p q r = let e : at + 4 + 4 ≡ at + 8 = omega arith in rw e (r ∙ ap (λ (x : List ℕ). set_word x (at + 8) c) (q ∙ ap (λ (x : List ℕ). set_word x (at + 4) b) p))
-
-all_seam : (s : List ℕ) (at a b : ℕ) (ws : List ℕ) → set_all (set_all s at (a ∷ b ∷ [])) (at + 8) ws ≡ set_all s at (a ∷ b ∷ ws)
-unfolding set_all
-all_seam s at a b ws = let e : at + 4 + 4 ≡ at + 8 = omega arith in rw e
-
-pub five_is : (s s1 s2 s3 s4 t : List ℕ) (at a b c d e : ℕ) → s1 ≡ set_word s at a → s2 ≡ set_word s1 (at + 4) b → s3 ≡ set_word s2 (at + 8) c → s4 ≡ set_word s3 (at + 12) d → t ≡ set_word s4 (at + 16) e → t ≡ set_all s at (a ∷ b ∷ c ∷ d ∷ e ∷ [])
-five_is s s1 s2 s3 s4 t at a b c d e p q r u v =
-    let x : at + 12 ≡ at + 8 + 4 = omega arith in
-    let y : at + 16 ≡ at + 8 + 8 = omega arith in
-    let three = three_is s2 s3 s4 t (at + 8) c d e r (rw x at u) (rw y at v) in
-    rw (two_is s s1 s2 at a b p q, all_seam s at a b (c ∷ d ∷ e ∷ [])) at three
+words_end s at i ws l = ap (set_all s at) (drop_of_length-le ws l)

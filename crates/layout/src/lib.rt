@@ -9,4 +9,4 @@
 mod rows;
 pub mod tables;
 
-pub use rows::{at_most, counter, get_pointer, put_five, put_pointer, put_three, put_two, wide};
+pub use rows::{at_most, counter, get_pointer, put_pointer, put_words, wide};

@@ -1,5 +1,5 @@
 // Words one after the other: written, and a pointer read back.
-ghost use Rattle.std.specs.Prelude.{◌≡◌, [], ◌∷◌, ◌+◌, ◌≤◌, length};
+ghost use Rattle.std.specs.Prelude.{◌≡◌, [], ◌∷◌, ◌+◌, ◌*◌, ◌≤◌, length};
 ghost use Rattle.words.specs.Words.{word};
 ghost use Rattle.module.specs.Ids.{pointer_of};
 ghost use Rattle.layout.specs.Rows.{cap, set_all};
@@ -32,39 +32,21 @@ pub fn wide(n: u32) -> usize
     n as usize
 }
 
-pub fn put_two(store: &mut [u8], at: usize, a: u32, b: u32)
-    requires { at + 8 ≤ length store.old }
-    ensures { store.new ≡ set_all store.old at (a ∷ b ∷ []) }
+// The words are written one after the other, the first at `at`.
+pub fn put_words<const N: usize>(store: &mut [u8], at: usize, words: [u32; N])
+    requires { at + 4 * N ≤ length store.old }
+    ensures { store.new ≡ set_all store.old at words.entry }
 {
-    put32(store, at, a);
-    put32(store, at + 4, b);
-}
-
-pub fn put_three(store: &mut [u8], at: usize, a: u32, b: u32, c: u32)
-    requires { at + 12 ≤ length store.old }
-    ensures { store.new ≡ set_all store.old at (a ∷ b ∷ c ∷ []) }
-{
-    put32(store, at, a);
-    put32(store, at + 4, b);
-    put32(store, at + 8, c);
-}
-
-pub fn put_five(store: &mut [u8], at: usize, a: u32, b: u32, c: u32, d: u32, e: u32)
-    requires { at + 20 ≤ length store.old }
-    ensures { store.new ≡ set_all store.old at (a ∷ b ∷ c ∷ d ∷ e ∷ []) }
-{
-    put32(store, at, a);
-    put32(store, at + 4, b);
-    put32(store, at + 8, c);
-    put32(store, at + 12, d);
-    put32(store, at + 16, e);
+    for (i, word) in words.iter().enumerate() {
+        put32(store, at + 4 * i, *word);
+    }
 }
 
 pub fn put_pointer(store: &mut [u8], at: usize, p: Pointer)
     requires { at + 12 ≤ length store.old }
     ensures { store.new ≡ set_all store.old at (p.kind ∷ p.from ∷ p.to ∷ []) }
 {
-    put_three(store, at, p.kind, p.from, p.to);
+    put_words(store, at, [p.kind, p.from, p.to]);
 }
 
 pub fn get_pointer(store: &[u8], at: usize) -> Pointer

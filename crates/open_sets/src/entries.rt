@@ -10,7 +10,7 @@ ghost use Rattle.open_sets.specs.Entries.{entry_with, Storable, PutEntry, change
 use crate::entry::{Entry, SetId};
 use crate::entry_rows::{EntryRow, binding_words, entry_of, entry_row};
 use layout::tables::{ENTRIES, ENTRY_COUNT, ENTRY_LIMIT, ENTRY_ROW};
-use layout::{at_most, put_five, put_two, wide};
+use layout::{at_most, put_words, wide};
 use module::{BindingValue, ExprId};
 use words::{get32, put32};
 
@@ -48,8 +48,8 @@ pub fn put_entry(store: &mut [u8], n: u32, e: Entry)
 {
     let row = entry_row(e);
     let at = ENTRIES + ENTRY_ROW * wide(n);
-    put_five(store, at, row.tag, row.set, row.a, row.b, row.nested);
-    put_two(store, at + 20, row.sort, row.value);
+    put_words(store, at, [row.tag, row.set, row.a, row.b, row.nested]);
+    put_words(store, at + 20, [row.sort, row.value]);
 }
 
 // Only a static entry has a value; in a row of another sort its words are free.
@@ -60,7 +60,7 @@ pub fn set_value(store: &mut [u8], i: u32, v: BindingValue)
     if i < entry_count(store) {
         let words = binding_words(v);
         let at = ENTRIES + ENTRY_ROW * wide(i);
-        put_two(store, at + 20, words.sort, words.value);
+        put_words(store, at + 20, [words.sort, words.value]);
     }
 }
 

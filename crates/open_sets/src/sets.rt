@@ -11,7 +11,7 @@ ghost use Rattle.open_sets.specs.Entries.{open_set, cut_to};
 use crate::entries::entry_count;
 use crate::entry::SetId;
 use layout::tables::{SET_COUNT, SET_LIMIT, SET_ROW, SETS};
-use layout::{at_most, counter, get_pointer, put_pointer, put_two, wide};
+use layout::{at_most, counter, get_pointer, put_pointer, put_words, wide};
 use module::{NameKind, Pointer, name_kind};
 use words::{get32, put32};
 
@@ -74,5 +74,5 @@ pub fn cut(store: &mut [u8], sets: u32, entries: u32)
 {
     let s = at_most(set_count(store), sets);
     let e = at_most(entry_count(store), entries);
-    put_two(store, 36, s, e);
+    put_words(store, 36, [s, e]);
 }

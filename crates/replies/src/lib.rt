@@ -8,7 +8,7 @@ ghost use Rattle.spec.specs.Calls.{reply_bytes, refusal};
 ghost use Rattle.replies.specs.Replies.{Told, ToldMoved, ToldList, ToldAnswer};
 
 use answer::{Answer, answer_number, answer_value};
-use layout::put_five;
+use layout::put_words;
 
 // Five words: a shorter reply is not written.
 pub const REPLY_BYTES: usize = 20;
@@ -18,7 +18,7 @@ pub fn refuse(reply: &mut [u8], number: u32, place: u32) -> u32
     requires { reply_bytes ≤ length reply.old }
     ensures { Told (refusal number place) reply.old result reply.new }
 {
-    put_five(reply, 0, number, place, 0, 0, 0);
+    put_words(reply, 0, [number, place, 0, 0, 0]);
     number
 }
 
@@ -27,7 +27,7 @@ pub fn accept(reply: &mut [u8], count: u32) -> u32
     requires { reply_bytes ≤ length reply.old }
     ensures { ToldMoved count reply.old result reply.new }
 {
-    put_five(reply, 0, 0, 0, 0, 0, count);
+    put_words(reply, 0, [0, 0, 0, 0, count]);
     0
 }
 
@@ -36,7 +36,7 @@ pub fn tell_list(reply: &mut [u8], count: u32) -> u32
     requires { reply_bytes ≤ length reply.old }
     ensures { ToldList count reply.old result reply.new }
 {
-    put_five(reply, 0, 0, 0, 0, 0, count);
+    put_words(reply, 0, [0, 0, 0, 0, count]);
     0
 }
 
@@ -47,6 +47,6 @@ pub fn tell_answer(reply: &mut [u8], a: Answer, count: u32) -> u32
 {
     let number = answer_number(a);
     let value = answer_value(a);
-    put_five(reply, 0, 0, 0, number, value, count);
+    put_words(reply, 0, [0, 0, number, value, count]);
     0
 }

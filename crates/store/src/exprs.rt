@@ -18,7 +18,7 @@ use layout::tables::{
     EXPR_COUNT, EXPR_LIMIT, EXPR_POINTERS, EXPR_ROW, EXPRS, ITEM_LIMIT, ITEM_ROW, ITEMS,
     POINTER_ROW, WAITING, WAITING_COUNT, WAITING_LIMIT,
 };
-use layout::{at_most, counter, put_five, put_pointer, put_three, wide};
+use layout::{at_most, counter, put_pointer, put_words, wide};
 use module::{Counter, Expr, ExprId, Item, Pointer, TextId};
 use rows::{REFERENCE, Row, expr_count};
 use words::{get32, move_run, put32};
@@ -40,12 +40,10 @@ pub fn push_item(store: &mut [u8], i: Item)
     if count.has_room(WAITING_LIMIT) {
         let row = held_item(store, item_row(i));
         let next = count.next();
-        put_three(
+        put_words(
             store,
             WAITING + ITEM_ROW * wide(count.used),
-            row.tag,
-            row.a,
-            row.b,
+            [row.tag, row.a, row.b],
         );
         put32(store, WAITING_COUNT, next.used);
     }
@@ -83,14 +81,10 @@ fn put_row(store: &mut [u8], count: Counter, end: u32, row: Row, p: Pointer)
 {
     let n = wide(count.used);
     let next = count.next();
-    put_five(
+    put_words(
         store,
         EXPRS + EXPR_ROW * n + 4,
-        row.sort,
-        row.a,
-        row.b,
-        row.c,
-        end,
+        [row.sort, row.a, row.b, row.c, end],
     );
     put_pointer(store, EXPR_POINTERS + POINTER_ROW * n, p);
     put32(store, EXPR_COUNT, next.used);

@@ -2,7 +2,7 @@
 ghost use Rattle.layout.specs.Layout.{Long};
 ghost use Rattle.store.specs.Work.{SetEntry, Cleared};
 
-use layout::put_five;
+use layout::put_words;
 use layout::tables::{ENTRY_COUNT, ENTRY_PLACE, EXPR_COUNT, EXPRS, FIRSTS, SCOPE_COUNT, SCOPES};
 use module::ExprId;
 use words::put32;
@@ -13,8 +13,8 @@ pub fn clear(store: &mut [u8])
     requires { Long store.old }
     ensures { Cleared store.old store.new }
 {
-    put_five(store, EXPR_COUNT, 0, 0, 0, 0, 0);
-    put_five(store, SCOPE_COUNT, 0, 0, 0, 0, 0);
+    put_words(store, EXPR_COUNT, [0, 0, 0, 0, 0]);
+    put_words(store, SCOPE_COUNT, [0, 0, 0, 0, 0]);
     put32(store, ENTRY_COUNT, 0);
     put32(store, EXPRS, 0);
     put32(store, SCOPES, 0);

@@ -12,7 +12,7 @@ use layout::tables::{
     DIAGNOSTIC_COUNT, DIAGNOSTIC_LIMIT, DIAGNOSTIC_ROW, DIAGNOSTICS, LOST, LOST_COUNT, NAME_COUNT,
     NAME_LIMIT, NAME_POINTERS, NAME_ROW, NAMES, POINTER_ROW,
 };
-use layout::{counter, put_pointer, put_two, wide};
+use layout::{counter, put_pointer, put_words, wide};
 use module::{Counter, NameId, NameKind, Pointer, TextId};
 use rows::name_count;
 use texts::held_text;
@@ -28,7 +28,7 @@ fn append_name(store: &mut [u8], text: u32, kind: NameKind, p: Pointer) -> NameI
         let n = wide(count.used);
         let number = kind.number();
         let next = count.next();
-        put_two(store, NAMES + NAME_ROW * n, text, number);
+        put_words(store, NAMES + NAME_ROW * n, [text, number]);
         put_pointer(store, NAME_POINTERS + POINTER_ROW * n, p);
         put32(store, NAME_COUNT, next.used);
         return NameId(count.used);

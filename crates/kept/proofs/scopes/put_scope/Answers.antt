@@ -7,4 +7,4 @@ pub next-next-requires : goal.next-next-requires
 next-next-requires c = omega (arith, c.requires.1)
 
 pub returns : goal.returns
-returns c = scope_put _ _ _ _ _ _ _ _ _ c.wide.ensures c.next-next.ensures c.put_three.ensures c.put32.ensures
+returns c = scope_put _ _ _ _ _ _ _ _ _ c.wide.ensures c.next-next.ensures c.put_words.ensures c.put32.ensures
