@@ -5,8 +5,9 @@ use mathlib.Core.List.{List, [], ◌∷◌, ◌++◌}
 use Prim.Native.Nat.{ℕ, zero, suc, ◌+◌, ◌-◌, ◌≤◌, ◌<◌}
 use native.Mathlib.Numerals.{add-one}
 use native.Mathlib.Omega.{arith}
-use lib.ListN.{length, get_or, drop, set, length-take, length-drop, length-set}
-use lib.Seq.{take-suc, drop-cons, take-length, get_or-take, get_or-drop, get_or-set_same, get_or-set_other, set_comm, sets, length-sets, ext_get_or}
+use lib.ListN.{length, get_or, take, drop, set, length-take, length-drop, length-set}
+use lib.Seq.{take-suc, drop-cons, take-length, get_or-take, get_or-drop, get_or-set_same, get_or-set_other, set_comm, sets, sets-eq, length-sets, ext_get_or}
+use Rattle.std.specs.List.{copy_within}
 use Rattle.words.specs.Runs.{run, splice}
 
 -- ---- a run
@@ -69,6 +70,18 @@ run_run s at n i m h k =
 pub length_splice : (s : List ℕ) (at : ℕ) (xs : List ℕ) → length (splice s at xs) ≡ length s
 unfolding splice
 length_splice s at xs = length-sets s at xs
+
+-- by its three parts, where what is written fits
+pub splice_is : (s : List ℕ) (at : ℕ) (xs : List ℕ) (n : ℕ) → n ≡ length xs → at + n ≤ length s → splice s at xs ≡ take at s ++ xs ++ drop (at + n) s
+unfolding splice
+splice_is s at xs n e h = rw e (sets-eq xs s at (omega arith))
+
+-- what the library's move within a list leaves
+pub moved_is : (s t : List ℕ) (from to n : ℕ) → from + n ≤ length s → to + n ≤ length s → t ≡ copy_within s from (from + n) to → t ≡ splice s to (run s from n)
+unfolding run
+moved_is s t from to n h k e =
+    let same : from + n - from ≡ n = omega arith in
+    e ∙ rw same (sym (splice_is s to (run s from n) n (sym (length_run s from n h)) k))
 
 -- a byte outside is as it was
 pub get_d_splice_other : (s : List ℕ) (at : ℕ) (xs : List ℕ) (j : ℕ) → (j < at) ⊎ (at + length xs ≤ j) → get_or (splice s at xs) j 0 ≡ get_or s j 0
