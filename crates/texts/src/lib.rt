@@ -11,4 +11,4 @@ mod read;
 
 pub use add::add_text;
 pub use held::{held_text, text_fits};
-pub use read::{TextSpan, compare_texts, text_byte, text_is, text_length, text_span, texts_equal};
+pub use read::{compare_texts, text_byte, text_bytes, text_is, text_length, texts_equal};

@@ -6,7 +6,7 @@ use Prim.Native.Nat.{ℕ, zero, suc, ◌+◌, ◌-◌, ◌≤◌, ◌<◌}
 use native.Mathlib.Numerals.{add-one}
 use native.Mathlib.Omega.{arith}
 use lib.ListN.{length, get_or, take, drop, set, length-take, length-drop, length-set}
-use lib.Seq.{take-suc, drop-cons, take-length, get_or-take, get_or-drop, get_or-set_same, get_or-set_other, set_comm, sets, sets-eq, length-sets, ext_get_or}
+use lib.Seq.{take-suc, drop-cons, take-length, get_or-take, get_or-drop, get_or-set_same, get_or-set_other, sets-eq, length-sets, ext_get_or}
 use Rattle.std.specs.List.{copy_within}
 use Rattle.words.specs.Runs.{run, splice}
 
@@ -36,13 +36,7 @@ run_snoc s at n h =
     let l : n < length (drop at s) = rw (length-drop at s) (omega arith) in
     rw (add-one n, take-suc (drop at s) n 0 l, get_or-drop at s n 0)
 
--- what is left of a run from i on
-pub run_rest : (s : List ℕ) (at n i : ℕ) → at + n ≤ length s → i < n → run s (at + i) (n - i) ≡ get_or s (at + i) 0 ∷ run s (at + (i + 1)) (n - (i + 1))
-run_rest s at n i h k =
-    let l : n - i ≡ suc (n - (i + 1)) = omega arith in
-    let p : at + i + 1 ≡ at + (i + 1) = omega arith in
-    rw (l, ← p) (run_cons s (at + i) (n - (i + 1)) (omega arith))
-
+-- what is left of a run past its end
 pub run_none : (s : List ℕ) (at n i : ℕ) → n ≤ i → run s at (n - i) ≡ []
 unfolding run
 run_none s at n i h = let l : n - i ≡ 0 = omega arith in rw l
@@ -123,23 +117,10 @@ run_splice_same s at xs h =
     let z : at + 0 ≡ at = omega arith in
     (rw z at (run_splice_within s at xs 0 (length xs) h (omega arith))) ∙ run_whole xs
 
--- ---- one byte more
--- after what was written
+-- ---- one byte more, after what was written
 pub splice_after : (s : List ℕ) (at : ℕ) (xs : List ℕ) (y : ℕ) → set (splice s at xs) (at + length xs) y ≡ splice s at (xs ++ (y ∷ []))
 unfolding splice
 splice_after s at [] y = let z : at + 0 ≡ at = omega arith in rw z
 splice_after s at (x ∷ xs) y =
     let z : at + suc (length xs) ≡ suc at + length xs = omega arith in
     rw z (splice_after (set s at x) (suc at) xs y)
-
--- before it
-splice_set : (s : List ℕ) (at : ℕ) (xs : List ℕ) (j y : ℕ) → j < at → set (splice s at xs) j y ≡ splice (set s j y) at xs
-unfolding splice
-splice_set s at [] j y h = refl
-splice_set s at (x ∷ xs) j y h =
-    let ne : at ≢ j = λ e. omega arith in
-    splice_set (set s at x) (suc at) xs j y (omega arith) ∙ ap (λ l. sets l (suc at) xs) (set_comm s at j x y ne)
-
-pub splice_before : (s : List ℕ) (at : ℕ) (xs : List ℕ) (y : ℕ) → set (splice s (at + 1) xs) at y ≡ splice s at (y ∷ xs)
-unfolding splice
-splice_before s at xs y = splice_set s (at + 1) xs at y (omega arith) ∙ rw (add-one at)
