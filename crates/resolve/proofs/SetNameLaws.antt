@@ -1,17 +1,15 @@
 -- The text of a name in a store where one name is read as if it had another text. Assumes nothing.
-use mathlib.Core.Path.{◌≡◌, refl, sym, ap, ◌∙◌}
+use mathlib.Core.Path.{◌≡◌, refl, ap, ◌∙◌}
 use mathlib.Core.Bool.{Bool}
 use mathlib.Core.List.{List, [], ◌∷◌}
 use mathlib.Core.Option.{Option}
-use Prim.Native.Nat.{ℕ, ◌+◌, ◌-◌, ◌≤◌, ◌<◌}
+use Prim.Native.Nat.{ℕ, ◌≤◌, ◌<◌}
 use native.Mathlib.Omega.{arith}
-use lib.ListN.{length, take, drop, get_or-eq_default}
+use lib.ListN.{length, get_or-eq_default}
 use lib.Dec.{eqb}
 use borrow.Author.Tests.{ne_eqb}
 use Rattle.words.specs.Words.{word}
-use Rattle.words.specs.Runs.{run}
 use Rattle.words.specs.Equality.{equalb}
-use Rattle.words.proofs.RunLaws.{run_whole}
 use Rattle.spec.specs.Basics.{Text}
 use Rattle.spec.specs.Module.{Name}
 use Rattle.spec.specs.Lower.{module_of}
