@@ -1,5 +1,5 @@
 // Texts: lent, compared and read where they lie. A number that is none of a text, as the mark, is the empty text.
-ghost use Rattle.std.specs.Prelude.{◌≡◌, ◌≤◌, length, get_or};
+ghost use Rattle.std.specs.Prelude.{◌≡◌, ◌≤◌, length};
 ghost use Rattle.words.specs.Equality.{equalb};
 ghost use Rattle.words.specs.Order.{order};
 ghost use Rattle.layout.specs.Layout.{text_limit, Long};
@@ -47,19 +47,4 @@ pub fn text_is(store: &[u8], t: TextId, bytes: &[u8]) -> bool
     ensures { result ≡ equalb (text_in store.now t.0) bytes.now }
 {
     equal(text_bytes(store, t), bytes)
-}
-
-pub fn text_length(store: &[u8], t: TextId) -> u32
-    requires { Long store.now }
-    ensures { result ≡ length (text_in store.now t.0) }
-{
-    text_bytes(store, t).len() as u32
-}
-
-// Past the end of a text is the byte 0.
-pub fn text_byte(store: &[u8], t: TextId, i: u32) -> u8
-    requires { Long store.now }
-    ensures { result ≡ get_or (text_in store.now t.0) i 0 }
-{
-    text_bytes(store, t).get(i as usize).copied().unwrap_or(0)
 }
