@@ -2,7 +2,7 @@
 ghost use Rattle.std.specs.Prelude.{◌≡◌};
 ghost use Rattle.words.specs.Equality.{equalb};
 
-// The library's test, which takes two thirds to nine tenths of the time of a loop over the bytes.
+// By the library's test, which is faster than a loop over the bytes (docs/PERFORMANCE.md).
 pub fn equal(a: &[u8], b: &[u8]) -> bool
     ensures { result ≡ equalb a.now b.now }
 {

@@ -5,7 +5,7 @@ ghost use Rattle.words.specs.Order.{order};
 
 use std::cmp::Ordering;
 
-// The library's order, which takes a third to four fifths of the time of a loop over the bytes.
+// By the library's order, which is faster than a loop over the bytes (docs/PERFORMANCE.md).
 pub fn compare(a: &[u8], b: &[u8]) -> Ordering
     ensures { result ≡ order a.now b.now }
 {
