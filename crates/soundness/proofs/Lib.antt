@@ -1,4 +1,5 @@
 pub mod SoundLaws
+pub mod RangeLaws
 pub mod SoundCountLaws
 pub mod SoundRowLaws
 pub mod SoundTableLaws

@@ -1,6 +1,6 @@
 -- Counts, and what they are held against: one law for each way out of the code. Assumes nothing.
-use mathlib.Core.Path.{◌≡◌}
-use mathlib.Core.Bool.{true, false, ◌&&◌, ◌||◌}
+use mathlib.Core.Path.{◌≡◌, refl}
+use mathlib.Core.Bool.{Bool, true, false, ◌&&◌, ◌||◌}
 use mathlib.Core.List.{List}
 use mathlib.Mathlib.Data.Bool.Basic.{and_elim_left, and_elim_right}
 use Prim.Native.Nat.{ℕ, ◌+◌, ◌*◌, ◌≤◌, ◌<◌}
@@ -9,9 +9,21 @@ use lib.Dec.{eqb, leb, ltb}
 use borrow.Author.Tests.{leb-true, lt-ltb, le-ltb}
 use Rattle.words.specs.Words.{word}
 use Rattle.layout.specs.Layout.{expr_limit, name_limit, diagnostic_limit, scope_limit, room_limit, loaded_text_limit, expr_count, name_count, diagnostic_count, lost_count, entry_place, scope_count, spent_place, texts_place, Long}
-use Rattle.soundness.specs.Sound.{counts_fit, entry_fits, expr_fits, name_fits}
+use Rattle.soundness.specs.Sound.{counts_fit, entry_fits, exprs_fit, names_fit, diagnostics_fit, scopes_fit, kept_fits, sound, expr_fits, name_fits}
 use Rattle.soundness.specs.SoundCounts.{Taken, Counted}
 use Rattle.soundness.specs.declared.counts.Counts.{Counts}
+
+-- ---- all tests, in the order of the code
+pub all_tests : (s t : List ℕ) → counts_fit t ≡ true → s ≡ t → (((((entry_fits s && exprs_fit s) && names_fit s) && diagnostics_fit s) && scopes_fit s) && kept_fits s) ≡ sound t
+unfolding sound
+all_tests s t f e = rw (e, f) (by (entry_fits t) (exprs_fit t) (names_fit t) (diagnostics_fit t) (scopes_fit t) (kept_fits t))
+  where
+    by : (a b c d e f : Bool) → (((((a && b) && c) && d) && e) && f) ≡ (a && (b && (c && (d && (e && f)))))
+    by true true true true e f = refl
+    by true true true false e f = refl
+    by true true false d e f = refl
+    by true false c d e f = refl
+    by false b c d e f = refl
 
 -- ---- counts
 module _ (s : List ℕ) (c : Counts) (h : Taken s c) where

@@ -3,8 +3,7 @@ use mathlib.Core.Path.{◌≡◌, ap, ◌∙◌}
 use mathlib.Core.Bool.{Bool, true, false}
 use mathlib.Core.List.{List}
 use Prim.Native.Nat.{ℕ, ◌+◌, ◌*◌, ◌≤◌, ◌<◌}
-use native.Mathlib.Nat.{mul-le-mul_left, mul-suc}
-use native.Mathlib.Numerals.{add-one}
+use native.Mathlib.Nat.{mul-le-mul_left}
 use native.Mathlib.Omega.{arith}
 use lib.ListN.{length}
 use Rattle.words.specs.Words.{word}
@@ -21,17 +20,8 @@ module _ (s : List ℕ) (at stride : ℕ) where
   pub at_base : (w : ℕ) → w ≡ word s at → w ≡ word s (at + stride * 0)
   at_base w h = let z : at ≡ at + stride * 0 = omega arith in h ∙ ap (word s) z
 
-  pub at_next : (i place : ℕ) → place ≡ at + stride * i → place + stride ≡ at + stride * (i + 1)
-  at_next i place h = rw (add-one i, mul-suc stride i) (omega arith)
-
-  pub word_next : (i place next : ℕ) → place ≡ at + stride * i → next ≡ word s (place + stride) → next ≡ word s (at + stride * (i + 1))
-  word_next i place next h e = e ∙ ap (word s) (at_next i place h)
-
-  pub next_within : (i n place : ℕ) → place ≡ at + stride * i → i < n → at + stride * n + 4 ≤ length s → place + stride + 4 ≤ length s
-  next_within i n place h l m =
-      let e : stride * (i + 1) ≡ stride * i + stride = rw (add-one i, mul-suc stride i) in
-      let up : stride * (i + 1) ≤ stride * n = mul-le-mul_left stride (omega arith) in
-      omega arith
+  pub next_within : (i n : ℕ) → i < n → at + stride * n + 4 ≤ length s → at + stride * (i + 1) + 4 ≤ length s
+  next_within i n l m = let up : stride * (i + 1) ≤ stride * n = mul-le-mul_left stride (omega arith) in omega arith
 
 -- ---- expressions
 module _ (s : List ℕ) (c : Counts) (h : Taken s c) (r : Bool) (f : r ≡ ascends (λ i. word s (exprs_at + expr_row * i)) c.exprs item_limit) where

@@ -1,7 +1,6 @@
-// How a call finds the store: refusals 21, 22 and 23, in this order.
-#[derive(Clone, Copy)]
-pub enum Condition {
-    Fit,
+// Why a store is not fit, of which a call is refused with 21, 22 and 23, in this order.
+#[derive(Clone, Copy, Debug, PartialEq, Eq)]
+pub enum Unfit {
     Short,
     Unsound,
     Unloaded,

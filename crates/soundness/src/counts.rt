@@ -1,13 +1,12 @@
 // The counts of a store: each within its limit, and the entry expression among the expressions.
 ghost use Rattle.std.specs.Prelude.{◌≡◌};
 ghost use Rattle.layout.specs.Layout.{Long};
-ghost use Rattle.soundness.specs.Sound.{counts_fit, entry_fits};
-ghost use Rattle.soundness.specs.SoundCounts.{Taken, Counted};
+ghost use Rattle.soundness.specs.Sound.{counts_fit};
+ghost use Rattle.soundness.specs.SoundCounts.{Taken};
 
 use layout::tables::{
-    DIAGNOSTIC_COUNT, DIAGNOSTIC_LIMIT, ENTRY_PLACE, EXPR_COUNT, EXPR_LIMIT, LOADED_TEXT_LIMIT,
-    LOST_COUNT, NAME_COUNT, NAME_LIMIT, ROOM_LIMIT, SCOPE_COUNT, SCOPE_LIMIT, SPENT_PLACE,
-    TEXTS_PLACE,
+    DIAGNOSTIC_COUNT, DIAGNOSTIC_LIMIT, EXPR_COUNT, EXPR_LIMIT, LOADED_TEXT_LIMIT, LOST_COUNT,
+    NAME_COUNT, NAME_LIMIT, ROOM_LIMIT, SCOPE_COUNT, SCOPE_LIMIT, SPENT_PLACE, TEXTS_PLACE,
 };
 use words::get32;
 
@@ -51,12 +50,4 @@ pub fn counts_fit(store: &[u8], counts: Counts) -> bool
                         & ((spent <= ROOM_LIMIT)
                             & (counts.texts as usize
                                 <= LOADED_TEXT_LIMIT + 5 * (spent as usize)))))))
-}
-
-// With no expression there is no entry.
-pub fn entry_fits(store: &[u8], counts: Counts) -> bool
-    requires { Counted store.now counts }
-    ensures { result ≡ entry_fits store.now }
-{
-    (counts.exprs == 0) | (get32(store, ENTRY_PLACE) < counts.exprs)
 }
