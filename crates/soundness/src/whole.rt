@@ -11,6 +11,7 @@ use crate::counted::CountedStore;
 use layout::tables::{EXPR_COUNT, STORE_BYTES};
 use words::get32;
 
+#[tactic(auto, unfolding(crate::specs::Sound::sound))]
 pub fn sound(store: &[u8]) -> bool
     requires { Long store.now }
     ensures { result ≡ sound store.now }
@@ -27,6 +28,7 @@ pub fn sound(store: &[u8]) -> bool
 }
 
 // 21 before 22 before 23.
+#[tactic(auto, unfolding(crate::specs::Verdict::verdict, crate::specs::Sound::condition_of))]
 pub fn condition(store: &[u8]) -> Result<(), Unfit>
     ensures { result ≡ verdict (condition_of store.now) }
 {
