@@ -19,13 +19,6 @@ second_fails false b h = refl
 pub first_fails : (a b : Bool) → a ≡ false → (a && b) ≡ false
 first_fails a b h = rw h
 
--- what `&&` gives in the code: the second answer, or the first where that is false
-pub second_told : {x y v : Bool} (a b : Bool) → x ≡ a → x ≡ true → v ≡ y → y ≡ b → v ≡ (a && b)
-second_told a b e t f g = rw (← e, t) (f ∙ g)
-
-pub first_told : {x v : Bool} (a b : Bool) → x ≡ a → x ≡ false → v ≡ x → v ≡ (a && b)
-first_told a b e t f = rw (← e, t) (f ∙ t)
-
 -- a number is another, or below it
 at_or_below : {A : Type 0} (i n : ℕ) → i ≤ n → (i ≡ n → A) → (i < n → A) → A
 at_or_below {A} i n l same below = by (eqb i n) refl
@@ -158,3 +151,7 @@ module _ (first : ℕ → ℕ) where
         let rest : (all_to (rises first) n && leb (first n) limit) ≡ true = and_elim_right (eqb (first 0) 0) (all_to (rises first) n && leb (first n) limit) h in
         let top : first n ≤ limit = leb-true (first n) limit (and_elim_right (all_to (rises first) n) (leb (first n) limit) rest) in
         omega (arith, up (and_elim_left (all_to (rises first) n) (leb (first n) limit) rest) n (omega arith) i l)
+
+    -- where the last list ends
+    pub last_within : (r : Bool) → r ≡ ascends first n limit → r ≡ true → (last : ℕ) → last ≡ first n → last ≤ limit
+    last_within r f t last e = rw e (below_limit (sym f ∙ t) n (omega arith))

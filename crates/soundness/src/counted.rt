@@ -30,6 +30,7 @@ impl<'a> CountedStore<'a> {
     }
 
     // With no expression there is no entry.
+    #[tactic(auto, unfolding(crate::specs::Sound::entry_fits, crate::specs::Sound::expr_fits))]
     pub fn entry_fits(&self) -> bool
         ensures { result ≡ entry_fits self.now.store.now }
     {

@@ -36,6 +36,7 @@ pub fn counts_of(store: &[u8]) -> Counts
 
 // The texts are held to less than their room, so that what the change room may still bring has a
 // place.
+#[tactic(auto, unfolding(crate::specs::Sound::counts_fit))]
 pub fn counts_fit(store: &[u8], counts: Counts) -> bool
     requires { Long store.now × Taken store.now counts }
     ensures { result ≡ counts_fit store.now }

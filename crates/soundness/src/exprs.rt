@@ -13,6 +13,7 @@ use words::get32;
 
 impl CountedStore<'_> {
     // A row, and the items from its own first one to the next row's.
+    #[tactic(auto, unfolding(crate::specs::Sound::row_fits, layout::specs::Exprs::first_item, layout::specs::Exprs::sort_of))]
     fn row_fits(&self, e: ExprId) -> bool
         requires { (e.0 < self.now.counts.exprs) × (ascends (first_item self.now.store.now) self.now.counts.exprs item_limit ≡ true) }
         ensures { result ≡ row_fits self.now.store.now e.0 }
@@ -36,6 +37,7 @@ impl CountedStore<'_> {
         (0..self.counts.exprs).all(|e| self.row_fits(ExprId(e)))
     }
 
+    #[tactic(auto, unfolding(crate::specs::Sound::exprs_fit, layout::specs::Exprs::first_item))]
     pub fn exprs_fit(&self) -> bool
         ensures { result ≡ exprs_fit self.now.store.now }
     {

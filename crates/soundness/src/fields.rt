@@ -14,6 +14,7 @@ const INFINITY: u64 = 9218868437227405312;
 const HIGHEST: u64 = 9223372036854775807;
 
 // A number of two words, the higher first, against a limit of two words.
+#[tactic(auto, unfolding(layout::specs::Exprs::wide))]
 fn wide_within(hi: u32, lo: u32, limit: u64) -> bool
     ensures { result ≡ leb (wide hi lo) limit }
 {
@@ -23,6 +24,7 @@ fn wide_within(hi: u32, lo: u32, limit: u64) -> bool
 impl CountedStore<'_> {
     // Neighbouring sorts stand in different arms, so that all arms together are one table of jumps.
     // There are 15 binary operators and 2 unary ones.
+    #[tactic(auto, unfolding(crate::specs::Sound::fields_fit, crate::specs::Sound::name_fits))]
     pub fn fields_fit(&self, e: ExprId, row: Row) -> bool
         ensures { result ≡ fields_fit self.now.store.now e.0 row.sort row.a row.b row.c }
     {

@@ -12,6 +12,7 @@ use words::get32;
 
 // Lambdas have pattern fields; a let and the two attribute sets have bindings, whose sources of
 // inherits are children; lists and attribute paths have children, and interpolations parts.
+#[tactic(auto, unfolding(crate::specs::Sound::tag_fits))]
 fn tag_fits(sort: u32, tag: u32) -> bool
     ensures { result ≡ tag_fits sort tag }
 {
@@ -30,6 +31,7 @@ fn tag_fits(sort: u32, tag: u32) -> bool
 }
 
 impl CountedStore<'_> {
+    #[tactic(auto, unfolding(crate::specs::Sound::numbers_fit, crate::specs::Sound::name_fits))]
     fn numbers_fit(&self, e: ExprId, item: ItemRow) -> bool
         ensures { result ≡ numbers_fit self.now.store.now e.0 item.tag item.a item.b }
     {
@@ -45,6 +47,7 @@ impl CountedStore<'_> {
         }
     }
 
+    #[tactic(auto, unfolding(crate::specs::Sound::item_fits))]
     fn item_fits(&self, e: ExprId, sort: u32, j: u32) -> bool
         requires { j < item_limit }
         ensures { result ≡ item_fits self.now.store.now e.0 sort j }

@@ -12,6 +12,7 @@ use texts::text_fits;
 use words::get32;
 
 impl CountedStore<'_> {
+    #[tactic(auto, unfolding(crate::specs::Sound::name_row_fits))]
     fn name_row_fits(&self, x: NameId) -> bool
         requires { x.0 < self.now.counts.names }
         ensures { result ≡ name_row_fits self.now.store.now x.0 }

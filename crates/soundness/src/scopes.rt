@@ -13,6 +13,7 @@ use words::get32;
 
 impl CountedStore<'_> {
     // Parent and With stand one too high, with 0 for none.
+    #[tactic(auto, unfolding(crate::specs::Sound::scope_fits))]
     fn scope_fits(&self, s: ScopeId) -> bool
         requires { s.0 < self.now.counts.scopes }
         ensures { result ≡ scope_fits self.now.store.now s.0 }
@@ -27,6 +28,7 @@ impl CountedStore<'_> {
         (0..self.counts.scopes).all(|s| self.scope_fits(ScopeId(s)))
     }
 
+    #[tactic(auto, unfolding(crate::specs::Sound::name_fits))]
     fn entered_row_fits(&self, j: u32) -> bool
         requires { j < name_limit }
         ensures { result ≡ name_fits self.now.store.now (word self.now.store.now (entered_at + 4 * j)) }
@@ -41,6 +43,7 @@ impl CountedStore<'_> {
         (0..n).all(|j| self.entered_row_fits(j))
     }
 
+    #[tactic(auto, unfolding(crate::specs::Sound::scopes_fit, layout::specs::Keeps::first_entered))]
     pub fn scopes_fit(&self) -> bool
         ensures { result ≡ scopes_fit self.now.store.now }
     {

@@ -12,6 +12,7 @@ use words::get32;
 
 impl CountedStore<'_> {
     // A scope stands one too high, with 0 for none; an answer is a name from 24 on.
+    #[tactic(auto, unfolding(crate::specs::Sound::use_fits))]
     fn use_fits(&self, e: ExprId) -> bool
         requires { e.0 < self.now.counts.exprs }
         ensures { result ≡ use_fits self.now.store.now e.0 }
@@ -27,6 +28,7 @@ impl CountedStore<'_> {
         (0..self.counts.exprs).all(|e| self.use_fits(ExprId(e)))
     }
 
+    #[tactic(auto, unfolding(crate::specs::Sound::expr_fits))]
     fn reference_row_fits(&self, j: u32) -> bool
         requires { j < reference_limit }
         ensures { result ≡ expr_fits self.now.store.now (word self.now.store.now (references_at + 4 * j)) }
@@ -41,6 +43,7 @@ impl CountedStore<'_> {
         (0..n).all(|j| self.reference_row_fits(j))
     }
 
+    #[tactic(auto, unfolding(crate::specs::Sound::kept_fits, layout::specs::Keeps::first_reference))]
     pub fn kept_fits(&self) -> bool
         ensures { result ≡ kept_fits self.now.store.now }
     {
