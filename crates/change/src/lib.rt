@@ -49,9 +49,8 @@ pub fn change_reference(
 ) -> u32
     ensures { Changed (change_reference number text.now (length moved.old) (length reply.old)) store.old moved.old reply.old result store.new moved.new reply.new }
 {
-    let why = begin(store, reply);
-    if why != 0 {
-        return why;
+    if let Err(why) = begin(store, reply) {
+        return why.number();
     }
     set_reference(store, number, text, moved, reply)
 }
@@ -81,9 +80,8 @@ pub fn change_name(
 ) -> u32
     ensures { Changed (change_name number text.now (length moved.old) (length reply.old)) store.old moved.old reply.old result store.new moved.new reply.new }
 {
-    let why = begin(store, reply);
-    if why != 0 {
-        return why;
+    if let Err(why) = begin(store, reply) {
+        return why.number();
     }
     set_name(store, number, text, moved, reply)
 }

@@ -1,6 +1,9 @@
 -- The condition of a store as the code tells it, and the refusal that it is: 21 comes before 22, and 22 before 23.
 use Rattle.std.specs.Prelude.{ℕ, Result, Ok, Err, if◌then◌else◌}
 use Rattle.spec.specs.Calls.{Condition}
+use Rattle.refusals.specs.Numbers as Numbers
+use Rattle.refusals.specs.declared.refusal.Refusal.{Refusal}
+use Rattle.refusals.specs.declared.refusal.Refusal.TheVariants.{StoreShort, StoreUnsound, NothingLoaded}
 use Rattle.soundness.specs.declared.conditions.Unfit.{Unfit}
 use Rattle.soundness.specs.declared.conditions.Unfit.TheVariants.{Short, Unsound, Unloaded}
 
@@ -12,12 +15,12 @@ verdict c =
     else Ok tt
 
 -- what a call is refused with
-unfoldable pub refusal_of : Unfit → ℕ
-refusal_of Short = 21
-refusal_of Unsound = 22
-refusal_of Unloaded = 23
+unfoldable pub refusal_of : Unfit → Refusal
+refusal_of Short = StoreShort
+refusal_of Unsound = StoreUnsound
+refusal_of Unloaded = NothingLoaded
 
 -- 0 where nothing is refused
 unfoldable pub number_of : Result (Unit {0}) Unfit → ℕ
 number_of (Ok _) = 0
-number_of (Err why) = refusal_of why
+number_of (Err why) = Numbers.number_of (refusal_of why)

@@ -1,19 +1,25 @@
-// Why a store is not fit, with the number of the refusal: a call is refused by these in this order.
+// Why a store is not fit: a call is refused by these in this order.
 ghost use Rattle.std.specs.Prelude.{◌≡◌};
 ghost use Rattle.soundness.specs.Verdict.{refusal_of};
 
+use refusals::Refusal;
+
 #[derive(Clone, Copy, Debug, PartialEq, Eq)]
 pub enum Unfit {
-    Short = 21,
-    Unsound = 22,
-    Unloaded = 23,
+    Short,
+    Unsound,
+    Unloaded,
 }
 
-impl Unfit {
+impl From<Unfit> for Refusal {
+    ghost from_gives = { λ why refusal. refusal ≡ refusal_of why };
+
     #[tactic(auto, unfolding(crate::specs::Verdict::refusal_of))]
-    pub fn number(self) -> u32
-        ensures { result ≡ refusal_of self }
-    {
-        self as u32
+    fn from(why: Unfit) -> Refusal {
+        match why {
+            Unfit::Short => Refusal::StoreShort,
+            Unfit::Unsound => Refusal::StoreUnsound,
+            Unfit::Unloaded => Refusal::NothingLoaded,
+        }
     }
 }
