@@ -15,18 +15,18 @@ ghost use Rattle.resolve.specs.Names.{unhidden, bound_or};
 use crate::search::{Found, innermost};
 use crate::withs::has_with;
 use answer::Answer;
-use builtins::{MaybeBuiltin, lookup_global_builtin};
+use builtins::lookup_global_builtin;
 use kept::scope_of;
 use layout::tables::ABSENT;
 use module::{ExprId, MaybeScope, NameId, ScopeId, TextId};
 use texts::text_span;
 
 // The built-in name that a text is, where no definition hides it.
-fn unhidden_builtin(found: Found, sought: &[u8]) -> MaybeBuiltin
+fn unhidden_builtin(found: Found, sought: &[u8]) -> Option<u32>
     ensures { builtin_of result ≡ unhidden (found_of found) (index_from 0 sought.now builtins) }
 {
     match found {
-        Found::In(_, _) => MaybeBuiltin::Absent,
+        Found::In(_, _) => None,
         Found::Nowhere => lookup_global_builtin(sought),
     }
 }
@@ -54,8 +54,8 @@ fn resolve_in(store: &[u8], s: ScopeId, sought: &[u8], x: NameId, text: &[u8]) -
 {
     let found = innermost(store, s, sought, x, text);
     match unhidden_builtin(found, sought) {
-        MaybeBuiltin::Builtin(i) => Answer::Builtin(i),
-        MaybeBuiltin::Absent => bound_or_withs(store, s, found),
+        Some(i) => Answer::Builtin(i),
+        None => bound_or_withs(store, s, found),
     }
 }
 
