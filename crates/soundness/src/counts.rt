@@ -41,14 +41,12 @@ pub fn counts_fit(store: &[u8], counts: Counts) -> bool
     requires { Long store.now × Taken store.now counts }
     ensures { result ≡ counts_fit store.now }
 {
-    let lost = get32(store, LOST_COUNT);
     let spent = get32(store, SPENT_PLACE);
-    (counts.exprs <= EXPR_LIMIT)
-        & ((counts.names <= NAME_LIMIT)
-            & ((counts.diagnostics <= DIAGNOSTIC_LIMIT)
-                & ((lost <= DIAGNOSTIC_LIMIT)
-                    & ((counts.scopes <= SCOPE_LIMIT)
-                        & ((spent <= ROOM_LIMIT)
-                            & (counts.texts as usize
-                                <= LOADED_TEXT_LIMIT + 5 * (spent as usize)))))))
+    counts.exprs <= EXPR_LIMIT
+        && counts.names <= NAME_LIMIT
+        && counts.diagnostics <= DIAGNOSTIC_LIMIT
+        && get32(store, LOST_COUNT) <= DIAGNOSTIC_LIMIT
+        && counts.scopes <= SCOPE_LIMIT
+        && spent <= ROOM_LIMIT
+        && counts.texts as usize <= LOADED_TEXT_LIMIT + 5 * (spent as usize)
 }

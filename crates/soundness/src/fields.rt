@@ -11,7 +11,7 @@ use texts::text_fits;
 // The highest bits that a float may have, and the highest integer.
 const INFINITY: u64 = 9218868437227405312;
 
-const HIGHEST: u64 = 9223372036854775807;
+const HIGHEST: u64 = i64::MAX as u64;
 
 // A number of two words, the higher first, against a limit of two words.
 #[tactic(auto, unfolding(layout::specs::Exprs::wide))]
