@@ -60,11 +60,10 @@ fn tell_reference(store: &[u8], number: u32, buffer: &mut [u8], reply: &mut [u8]
 pub fn ask_reference(store: &[u8], number: u32, buffer: &mut [u8], reply: &mut [u8]) -> u32
     ensures { Asked (ask_reference number (length buffer.old) (length reply.old)) store.now buffer.old reply.old result buffer.new reply.new }
 {
-    let why = begin(store, reply);
-    if why != 0 {
-        return why;
+    match begin(store, reply) {
+        Ok(()) => tell_reference(store, number, buffer, reply),
+        Err(why) => why.number(),
     }
-    tell_reference(store, number, buffer, reply)
 }
 
 // Of a fit store.
@@ -87,9 +86,8 @@ fn tell_name(store: &[u8], number: u32, buffer: &mut [u8], reply: &mut [u8]) -> 
 pub fn ask_name(store: &[u8], number: u32, buffer: &mut [u8], reply: &mut [u8]) -> u32
     ensures { Asked (ask_name number (length buffer.old) (length reply.old)) store.now buffer.old reply.old result buffer.new reply.new }
 {
-    let why = begin(store, reply);
-    if why != 0 {
-        return why;
+    match begin(store, reply) {
+        Ok(()) => tell_name(store, number, buffer, reply),
+        Err(why) => why.number(),
     }
-    tell_name(store, number, buffer, reply)
 }

@@ -1,64 +1,62 @@
--- One name compared with a text, and the search through all of them. Assumes nothing.
+-- The first of a list of names that a text equals, as `position` says it, and as the definitions count. Assumes nothing.
+use Rattle.std.specs.Prelude as std
+use Rattle.std.specs.Prelude.{Some, None, map}
+use Rattle.std.specs.List.{AllWithin, HoldsAt}
+use Rattle.std.specs.Option.{MatchOption}
+use Rattle.std.proofs.lemmas.List.{length-map}
+use denote.Ref.{Bor}
 use mathlib.Core.Path.{◌≡◌, refl, sym, ap, ◌∙◌}
-use mathlib.Core.Bool.{Bool, true, false}
+use mathlib.Core.Bool.{true, false}
 use mathlib.Core.List.{List, [], ◌∷◌}
-use mathlib.Core.Option.{Option, none, some}
-use Prim.Native.Nat.{ℕ, ◌+◌, ◌≤◌, ◌<◌}
-use native.Mathlib.Numerals.{add-one}
+use mathlib.Core.Option.{none, some}
+use Prim.Native.Nat.{ℕ, zero, suc, ◌+◌, ◌<◌}
 use native.Mathlib.Omega.{arith}
-use lib.ListN.{length, take, drop, get_or, drop_of_length-le}
-use lib.Seq.{drop-cons}
-use Rattle.words.specs.Runs.{run}
+use lib.ListN.{length}
 use Rattle.words.specs.Equality.{equalb}
-use Rattle.words.proofs.EqualityLaws.{equalb_other}
+use Rattle.words.proofs.EqualityLaws.{equalb_refl, equalb_other}
 use Rattle.spec.specs.Basics.{Text}
 use Rattle.spec.specs.Answer.{builtins, index_from}
-use Rattle.builtins.specs.declared.lookup.MaybeBuiltin.TheVariants.{Builtin, Absent}
-use Rattle.builtins.specs.Table.{rows, lengths, firsts, name_at}
 use Rattle.builtins.specs.Lookup.{builtin_of, Looked}
-use Rattle.builtins.proofs.TableLaws.{count, name_at_lem, row_holds, name_length, name_begins}
+use Rattle.builtins.proofs.TableLaws.{count}
 
--- ---- one name
-pub first_none : (t : Text) → length t ≡ 0 → 0 ≡ get_or t 0 0
-first_none [] h = refl
-first_none (b ∷ bs) h = absurd (omega arith)
+module _ (t : Text) where
+  abbrev pub Is : Bor Text → Type 0
+  Is name = name.now ≡ t
 
-pub fits_row : (i n : ℕ) (row : List ℕ) → i < 22 → n ≡ get_or lengths i 0 → row ≡ get_or rows i [] → n ≤ length row
-fits_row i n row h e q = rw (e, q) (row_holds i h)
+  abbrev pub IsNot : Bor Text → Type 0
+  IsNot name = name.now ≡ t → ⊥
 
-pub other_length : (i k : ℕ) (t : Text) → i < 22 → k ≡ get_or lengths i 0 → (k ≡ length t → ⊥) → false ≡ equalb (name_at i) t
-other_length i k t h e d = sym (equalb_other (name_at i) t (λ q. d (e ∙ sym (name_length i h) ∙ ap length q)))
+  found_at : (xs : List (Bor Text)) (k i : ℕ) → i < length xs → HoldsAt Is xs i → AllWithin IsNot xs 0 i → index_from k t (map (λ name. name.now) xs) ≡ some (k + i)
+  unfolding index_from
+  found_at [] k i l h n = absurd (omega arith)
+  found_at (x ∷ xs) k zero l h n =
+      let same : equalb x.now t ≡ true = rw (h x) (equalb_refl t) in
+      let at : k ≡ k + 0 = omega arith in
+      rw same (ap some at)
+  found_at (x ∷ xs) k (suc i) l h n =
+      let other : equalb x.now t ≡ false = equalb_other x.now t (n 0 x (omega arith) (omega arith)) in
+      let at : suc k + i ≡ k + suc i = omega arith in
+      rw other (found_at xs (suc k) i (omega arith) h (λ j d a b. n (suc j) d (omega arith) (omega arith)) ∙ ap some at)
 
-pub other_first : (i k b : ℕ) (t : Text) → i < 22 → k ≡ get_or firsts i 0 → b ≡ get_or t 0 0 → (k ≡ b → ⊥) → false ≡ equalb (name_at i) t
-other_first i k b t h e f d = sym (equalb_other (name_at i) t (λ q. d (e ∙ sym (name_begins i h) ∙ ap (λ (s : Text). get_or s 0 0) q ∙ sym f)))
+  found_nowhere : (xs : List (Bor Text)) (k : ℕ) → AllWithin IsNot xs 0 (length xs) → index_from k t (map (λ name. name.now) xs) ≡ none
+  unfolding index_from
+  found_nowhere [] k n = refl
+  found_nowhere (x ∷ xs) k n =
+      let other : equalb x.now t ≡ false = equalb_other x.now t (n 0 x (omega arith) (omega arith)) in
+      rw other (found_nowhere xs (suc k) (λ j d a b. n (suc j) d (omega arith) (omega arith)))
 
-pub row_compared : (i n : ℕ) (row t : List ℕ) (b : Bool) → n ≡ get_or lengths i 0 → row ≡ get_or rows i [] → b ≡ equalb (take n row) t → b ≡ equalb (name_at i) t
-unfolding name_at run
-row_compared i n row t b e q h = h ∙ rw (e, q)
-
--- ---- all of them
-module _ (t : Text) (i : ℕ) (asked : index_from 0 t builtins ≡ index_from i t (drop i builtins)) where
-  here : i < 22 → index_from 0 t builtins ≡ index_from i t (name_at i ∷ drop (i + 1) builtins)
-  here h = asked ∙ ap (index_from i t) (drop-cons builtins i [] (rw count h) ∙ rw (name_at_lem i h, add-one))
-
-  pub name_found : (b : Bool) → i < 22 → b ≡ equalb (name_at i) t → b ≡ true → Looked (Builtin i) t
-  unfolding builtin_of index_from
-  name_found b h e q =
-      let y : equalb (name_at i) t ≡ true = sym e ∙ q in
-      record { is = sym (here h ∙ rw y); low = λ j z. rw (same z) h }
+  -- of the names that there are
+  pub looked : (xs : List (Bor Text)) → map (λ name. name.now) xs ≡ builtins → (r : std.Option ℕ) → MatchOption r (AllWithin IsNot xs 0 (length xs)) (λ i. (i < length xs) × HoldsAt Is xs i × AllWithin IsNot xs 0 i) → Looked r t
+  unfolding builtin_of
+  looked xs says None h = record { is = sym (found_nowhere xs 0 h) ∙ ap (index_from 0 t) says; low = λ i e. cc }
+  looked xs says (Some i) (l, h, n) =
+      record { is = sym (found_at xs 0 i l h n ∙ ap some from_zero) ∙ ap (index_from 0 t) says; low = λ j e. rw (same e) at within }
     where
-      same : {j k : ℕ} → some j ≡ some k → k ≡ j
+      from_zero : 0 + i ≡ i
+      from_zero = omega arith
+
+      same : {j k : ℕ} → some j ≡ some k → j ≡ k
       same z = cc
 
-  pub name_passed : (b : Bool) → i < 22 → b ≡ equalb (name_at i) t → b ≡ false → index_from 0 t builtins ≡ index_from (i + 1) t (drop (i + 1) builtins)
-  unfolding index_from
-  name_passed b h e q =
-      let y : equalb (name_at i) t ≡ false = sym e ∙ q in
-      here h ∙ rw (y, add-one)
-
-  pub name_lacked : 22 ≤ i → Looked Absent t
-  unfolding builtin_of index_from
-  name_lacked h = record { is = sym (asked ∙ ap (index_from i t) (drop_of_length-le builtins {i = i} (rw count h))); low = λ j z. absurd (differ z) }
-    where
-      differ : {j : ℕ} → ◌≡◌ {A = Option ℕ} none (some j) → ⊥
-      differ z = let n : ◌≡◌ {A = ℕ} 0 1 = cc in omega arith
+      within : i < 22
+      within = omega (arith, count, ap length says, length-map xs (λ (name : Bor Text). name.now))

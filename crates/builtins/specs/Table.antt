@@ -1,55 +1,16 @@
--- The table of the code: a row of bytes for each built-in name, and how many of them are the name. It says what the
--- definitions say, and no name twice.
-use Rattle.std.specs.Prelude.{◌≡◌, refl, Bool, true, false, ◌||◌, ◌&&◌, not, List, [], ◌∷◌, ℕ, take, get_or}
+-- The table of the code says what the definitions say, and no name twice.
+use Rattle.std.specs.Prelude.{◌≡◌, refl, Bool, true, false, ◌||◌, ◌&&◌, not, List, [], ◌∷◌, map}
 use Rattle.words.specs.Equality.{equalb}
-use Rattle.spec.specs.Basics.{Text, bytes}
+use Rattle.spec.specs.Basics.{Text}
 use Rattle.spec.specs.Answer.{builtins}
+use Rattle.builtins.specs.declared.table.TheConstants.{NAMES}
 
-unfoldable pub rows : List (List ℕ)
-rows =
-    bytes "abort         "
-    ∷ bytes "baseNameOf    "
-    ∷ bytes "builtins      "
-    ∷ bytes "derivation    "
-    ∷ bytes "dirOf         "
-    ∷ bytes "false         "
-    ∷ bytes "fetchGit      "
-    ∷ bytes "fetchMercurial"
-    ∷ bytes "fetchTarball  "
-    ∷ bytes "fetchTree     "
-    ∷ bytes "fetchurl      "
-    ∷ bytes "fromTOML      "
-    ∷ bytes "import        "
-    ∷ bytes "isNull        "
-    ∷ bytes "map           "
-    ∷ bytes "null          "
-    ∷ bytes "placeholder   "
-    ∷ bytes "removeAttrs   "
-    ∷ bytes "scopedImport  "
-    ∷ bytes "throw         "
-    ∷ bytes "toString      "
-    ∷ bytes "true          "
-    ∷ []
+-- the names of the code, by their bytes
+unfoldable pub names : List Text
+names = map (λ name. name.now) NAMES
 
-unfoldable pub lengths : List ℕ
-lengths = 5 ∷ 10 ∷ 8 ∷ 10 ∷ 5 ∷ 5 ∷ 8 ∷ 14 ∷ 12 ∷ 9 ∷ 8 ∷ 8 ∷ 6 ∷ 6 ∷ 3 ∷ 4 ∷ 11 ∷ 11 ∷ 12 ∷ 5 ∷ 8 ∷ 4 ∷ []
-
--- the first byte of each name
-unfoldable pub firsts : List ℕ
-firsts = bytes "abbddfffffffiimnprsttt"
-
--- what rows and lengths say
-unfoldable pub spelt : List (List ℕ) → List ℕ → List Text
-spelt [] ns = []
-spelt (r ∷ rs) [] = []
-spelt (r ∷ rs) (n ∷ ns) = take n r ∷ spelt rs ns
-
--- the i-th of them
-unfoldable pub name_at : ℕ → Text
-name_at i = take (get_or lengths i 0) (get_or rows i [])
-
-pub table_says : spelt rows lengths ≡ builtins
-unfolding spelt rows lengths builtins
+pub table_says : names ≡ builtins
+unfolding names builtins
 table_says = refl
 
 -- ---- no text stands twice

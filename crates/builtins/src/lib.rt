@@ -6,4 +6,4 @@
 mod lookup;
 mod table;
 
-pub use lookup::{MaybeBuiltin, lookup_global_builtin};
+pub use lookup::lookup_global_builtin;

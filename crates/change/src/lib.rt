@@ -49,11 +49,10 @@ pub fn change_reference(
 ) -> u32
     ensures { Changed (change_reference number text.now (length moved.old) (length reply.old)) store.old moved.old reply.old result store.new moved.new reply.new }
 {
-    let why = begin(store, reply);
-    if why != 0 {
-        return why;
+    match begin(store, reply) {
+        Ok(()) => set_reference(store, number, text, moved, reply),
+        Err(why) => why.number(),
     }
-    set_reference(store, number, text, moved, reply)
 }
 
 // In a fit store. An equal text changes and moves nothing.
@@ -81,9 +80,8 @@ pub fn change_name(
 ) -> u32
     ensures { Changed (change_name number text.now (length moved.old) (length reply.old)) store.old moved.old reply.old result store.new moved.new reply.new }
 {
-    let why = begin(store, reply);
-    if why != 0 {
-        return why;
+    match begin(store, reply) {
+        Ok(()) => set_name(store, number, text, moved, reply),
+        Err(why) => why.number(),
     }
-    set_name(store, number, text, moved, reply)
 }

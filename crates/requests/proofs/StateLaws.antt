@@ -1,5 +1,5 @@
 -- The checks that every call begins with, and what each call was from what its steps did. Assumes nothing.
-use Rattle.std.specs.Prelude.{if◌then◌else◌}
+use Rattle.std.specs.Prelude.{Ok, Err, if◌then◌else◌}
 use mathlib.Core.Path.{◌≡◌, refl, sym, ap, ◌∙◌}
 use mathlib.Core.Bool.{Bool, true, false, or-true, or-false}
 use mathlib.Core.List.{List}
@@ -17,11 +17,15 @@ use Rattle.layout.specs.States.{names_of, state_of, module_in}
 use Rattle.layout.specs.Regions.{changing}
 use Rattle.layout.specs.Keeps.{kept_in}
 use Rattle.layout.proofs.Frames.{wrote_none}
+use Rattle.refusals.specs.Numbers as Numbers
+use Rattle.refusals.specs.declared.refusal.Refusal.{Refusal}
+use Rattle.refusals.specs.declared.refusal.Refusal.TheVariants.{SheetTooLong, Malformed, WrongValue, WrongArity, MisplacedKid, TooDeep, NodesLeft, TextTooLong, StoreShort, StoreUnsound, NothingLoaded, NoSuchNumber, NotAReference, BufferShort, RoomSpent, WrongFlag, WrongText, WrongRange, MovedShort}
+use Rattle.soundness.specs.declared.conditions.Unfit.{Unfit}
 use Rattle.soundness.specs.Sound.{condition_of}
-use Rattle.soundness.specs.Verdict.{verdict, number_of}
+use Rattle.soundness.specs.Verdict.{verdict, refusal_of, number_of}
 use Rattle.replies.specs.Replies.{returned, list_of, reply_after, buffer_after, Told}
 use Rattle.replies.proofs.ReplyLaws.{reply_short}
-use Rattle.requests.specs.Requests.{outcome_in, own_outcome, first_refusal, Begun, Asked, Leaves, Changed}
+use Rattle.requests.specs.Requests.{outcome_in, own_outcome, first_refusal, refused_with, Begun, Asked, Leaves, Changed}
 
 -- ---- 21, 22 and 23
 -- the reply is too short, whatever the store is
@@ -31,7 +35,7 @@ reply_refused s c h = rw (lt-ltb (reply_of c) reply_bytes h, or-true (condition_
 
 first_checks : (a b d : Bool) (n : ℕ) (rest : Outcome) → n ≡ number_of (verdict (record { short = a; unsound = b; unloaded = d })) → (n ≡ 0 → ⊥)
     → check a 21 0 (check b 22 0 (check d 23 0 rest)) ≡ refusal n 0
-unfolding check verdict number_of
+unfolding check verdict number_of refusal_of
 first_checks true b d n rest h z = ap (λ (k : ℕ). refusal k 0) (sym h)
 first_checks false true d n rest h z = ap (λ (k : ℕ). refusal k 0) (sym h)
 first_checks false false true n rest h z = ap (λ (k : ℕ). refusal k 0) (sym h)
@@ -47,7 +51,7 @@ state_refused s c n h e z =
 
 -- nothing to refuse
 all_well : (a b d : Bool) → 0 ≡ number_of (verdict (record { short = a; unsound = b; unloaded = d })) → ◌≡◌ {A = Condition} (record { short = a; unsound = b; unloaded = d }) fit
-unfolding verdict number_of
+unfolding verdict number_of refusal_of
 all_well true b d h = absurd (omega (arith, h))
 all_well false true d h = absurd (omega (arith, h))
 all_well false false true h = absurd (omega (arith, h))
@@ -107,22 +111,52 @@ pub refused_changed : (c : Call) (s b p : List ℕ) (r : ℕ) (p' : List ℕ) (k
 unfolding is_accepted buffer_after list_of set_all
 refused_changed c s b p r p' k l e t = told_changed c s b p r s b p' (refusal k l) e t refl (refused_leaves c s (ap is_accepted e))
 
+-- no refusal has the number 0
+refuses : (why : Refusal) → Numbers.number_of why ≡ 0 → ⊥
+refuses why h = omega (arith, h, positive why)
+  where
+    positive : (why : Refusal) → 1 ≤ Numbers.number_of why
+    positive SheetTooLong = omega arith
+    positive Malformed = omega arith
+    positive WrongValue = omega arith
+    positive WrongArity = omega arith
+    positive MisplacedKid = omega arith
+    positive TooDeep = omega arith
+    positive NodesLeft = omega arith
+    positive TextTooLong = omega arith
+    positive StoreShort = omega arith
+    positive StoreUnsound = omega arith
+    positive NothingLoaded = omega arith
+    positive NoSuchNumber = omega arith
+    positive NotAReference = omega arith
+    positive BufferShort = omega arith
+    positive RoomSpent = omega arith
+    positive WrongFlag = omega arith
+    positive WrongText = omega arith
+    positive WrongRange = omega arith
+    positive MovedShort = omega arith
+
 -- ---- the first checks, as the code makes them
-pub begun_short : (s p : List ℕ) → length p < reply_bytes → Begun s p 21 p
-unfolding first_refusal
+pub begun_short : (s p : List ℕ) → length p < reply_bytes → Begun s p (refused_with (Err StoreShort)) p
+unfolding first_refusal refused_with
 begun_short s p h = record { number = rw (lt-ltb (length p) reply_bytes h); reply = reply_short (refusal 21 0) p h }
 
-module _ (s p : List ℕ) (long : reply_bytes ≤ length p) (n : ℕ) (says : n ≡ number_of (verdict (condition_of s))) where
-  first_is : n ≡ first_refusal s (length p)
+module _ (s p : List ℕ) (long : reply_bytes ≤ length p) where
+  first_is : (n : ℕ) → n ≡ number_of (verdict (condition_of s)) → n ≡ first_refusal s (length p)
   unfolding first_refusal
-  first_is = rw (le-ltb (length p) reply_bytes long) says
+  first_is n says = rw (le-ltb (length p) reply_bytes long) says
 
-  pub begun_fit : n ≡ 0 → Begun s p 0 p
-  begun_fit z = record { number = sym z ∙ first_is; reply = refl }
+  pub begun_fit : Ok tt ≡ verdict (condition_of s) → Begun s p (refused_with (Ok tt)) p
+  unfolding number_of refused_with
+  begun_fit fits = record { number = first_is 0 (ap number_of fits); reply = refl }
 
-  pub begun_refused : (n ≡ 0 → ⊥) → (r : ℕ) (p' : List ℕ) → Told (refusal n 0) p r p' → Begun s p r p'
-  unfolding returned
-  begun_refused refuses r p' t = rw t.number (record { number = first_is; reply = rw (ne_eqb n 0 refuses) t.reply })
+  pub begun_refused : (unfit : Unfit) → Err unfit ≡ verdict (condition_of s) → (why : Refusal) → why ≡ refusal_of unfit → (n r : ℕ) (p' : List ℕ) → n ≡ Numbers.number_of why → Told (refusal n 0) p r p' → Begun s p (refused_with (Err why)) p'
+  unfolding number_of refused_with returned
+  begun_refused unfit says why is n r p' told t =
+      record {
+        number = first_is (Numbers.number_of why) (ap Numbers.number_of is ∙ ap number_of says);
+        reply = t.reply ∙ rw (ne_eqb (Numbers.number_of why) 0 (refuses why), told);
+      }
 
 -- ---- and what a call goes on from, or comes to
 module _ {s p : List ℕ} {r : ℕ} {p' : List ℕ} (begun : Begun s p r p') where
@@ -135,11 +169,11 @@ module _ {s p : List ℕ} {r : ℕ} {p' : List ℕ} (begun : Begun s p r p') whe
         by_length true e h = absurd (omega (arith, h))
         by_length false e h = (state_fit s 0 h refl, ltb-false (length p) reply_bytes e)
 
-    pub goes_on : p' ≡ p
+    goes_on : p' ≡ p
     goes_on = begun.reply ∙ rw passed
 
     -- what the rest of a call is promised
-    pub rest_fits : (condition_of s ≡ fit) × (reply_bytes ≤ length p')
+    rest_fits : (condition_of s ≡ fit) × (reply_bytes ≤ length p')
     rest_fits = rw goes_on fits_and_long
 
   module _ (refuses : r ≡ 0 → ⊥) (c : Call) (lent : reply_of c ≡ length p) where
@@ -155,8 +189,27 @@ module _ {s p : List ℕ} {r : ℕ} {p' : List ℕ} (begun : Begun s p r p') whe
     unfolding returned
     refusal_told = record { number = refl; reply = begun.reply ∙ rw (ne_eqb r 0 refuses) }
 
-    pub stopped_asked : (b : List ℕ) → Asked c s b p r b p'
+    stopped_asked : (b : List ℕ) → Asked c s b p r b p'
     stopped_asked b = refused_asked c s b p r b p' r 0 refused_first refusal_told refl
 
-    pub stopped_changed : (b : List ℕ) → Changed c s b p r s b p'
+    stopped_changed : (b : List ℕ) → Changed c s b p r s b p'
     stopped_changed b = refused_changed c s b p r p' r 0 refused_first refusal_told
+
+-- by what the first checks return
+module _ {s p p' : List ℕ} where
+  pub goes_on_fit : Begun s p (refused_with (Ok tt)) p' → (condition_of s ≡ fit) × (reply_bytes ≤ length p')
+  unfolding refused_with
+  goes_on_fit begun = rest_fits begun refl
+
+  pub goes_on_same : Begun s p (refused_with (Ok tt)) p' → p' ≡ p
+  unfolding refused_with
+  goes_on_same begun = goes_on begun refl
+
+  module _ (why : Refusal) (begun : Begun s p (refused_with (Err why)) p') (c : Call) (lent : reply_of c ≡ length p) (b : List ℕ) (r : ℕ) (told : r ≡ Numbers.number_of why) where
+    pub refusal_asked : Asked c s b p r b p'
+    unfolding refused_with
+    refusal_asked = rw told (stopped_asked begun (refuses why) c lent b)
+
+    pub refusal_changed : Changed c s b p r s b p'
+    unfolding refused_with
+    refusal_changed = rw told (stopped_changed begun (refuses why) c lent b)

@@ -1,8 +1,10 @@
 -- What a call that asks or changes makes of the bytes that it finds, whoever wrote them: a store as a load left it, or
 -- any other (docs/RULES.md, "What a refusal leaves", "The condition of a store").
-use Rattle.std.specs.Prelude.{◌≡◌, false, List, ℕ, length, ltb, eqb, if◌then◌else◌}
+use Rattle.std.specs.Prelude.{◌≡◌, false, List, ℕ, length, ltb, eqb, Result, Ok, Err, if◌then◌else◌}
 use Rattle.spec.specs.Calls.{fit, Call, Outcome, refusal, reply_bytes, answer_call, is_accepted, old_text, new_text}
 use Rattle.spec.specs.Kept.{kept_answer, kept_references, kept_moved, kept_outcome, kept_after}
+use Rattle.refusals.specs.Numbers as Numbers
+use Rattle.refusals.specs.declared.refusal.Refusal.{Refusal}
 use Rattle.layout.specs.Changes.{Wrote}
 use Rattle.layout.specs.Regions.{changing}
 use Rattle.layout.specs.Keeps.{kept_in}
@@ -21,6 +23,11 @@ own_outcome s c = answer_call (kept_in s).lowered (kept_answer (kept_in s)) (kep
 -- the refusal of every call, whatever it is about: 21, 22 or 23; 0 where there is none of these
 unfoldable pub first_refusal : List ℕ → ℕ → ℕ
 first_refusal s reply = if ltb reply reply_bytes then 21 else number_of (verdict (condition_of s))
+
+-- the number of what a call is refused with; 0 where it goes on
+unfoldable pub refused_with : Result (Unit {0}) Refusal → ℕ
+refused_with (Ok _) = 0
+refused_with (Err why) = Numbers.number_of why
 
 -- The first checks of a call on the store s: r was found, and the reply p is p' now, untouched where the call goes on.
 pub record Begun (s p : List ℕ) (r : ℕ) (p' : List ℕ) : Type 0 where

@@ -4,36 +4,25 @@
 // and what it leaves, is said here for all of them (specs/Requests).
 #![tactic(auto)]
 
-ghost use Rattle.std.specs.Prelude.{◌≡◌};
-ghost use Rattle.soundness.specs.Sound.{condition_of};
-ghost use Rattle.soundness.specs.Verdict.{verdict, number_of};
-ghost use Rattle.requests.specs.Requests.{Begun};
+ghost use Rattle.requests.specs.Requests.{Begun, refused_with};
 
+use refusals::Refusal;
 use replies::{REPLY_BYTES, refuse};
-use soundness::{Condition, condition};
+use soundness::condition;
 
-// Why a store can neither be asked nor changed; 0 where it can.
-fn state_refusal(store: &[u8]) -> u32
-    ensures { result ≡ number_of (verdict (condition_of store.now)) }
-{
-    match condition(store) {
-        Condition::Fit => 0,
-        Condition::Short => 21,
-        Condition::Unsound => 22,
-        Condition::Unloaded => 23,
-    }
-}
-
-// The refusal that a call comes to whatever it is about, told in a reply that is long enough; 0 where it may go on.
-pub fn begin(store: &[u8], reply: &mut [u8]) -> u32
-    ensures { Begun store.now reply.old result reply.new }
+// The refusal that a call comes to whatever it is about, told in a reply that is long enough; else the call may go on.
+pub fn begin(store: &[u8], reply: &mut [u8]) -> Result<(), Refusal>
+    ensures { Begun store.now reply.old (refused_with result) reply.new }
 {
     if reply.len() < REPLY_BYTES {
-        return 21;
+        return Err(Refusal::StoreShort);
     }
-    let why = state_refusal(store);
-    if why == 0 {
-        return 0;
+    match condition(store) {
+        Ok(()) => Ok(()),
+        Err(unfit) => {
+            let why = Refusal::from(unfit);
+            refuse(reply, why.number(), 0);
+            Err(why)
+        }
     }
-    refuse(reply, why, 0)
 }

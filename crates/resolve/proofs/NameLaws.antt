@@ -1,4 +1,6 @@
 -- An answer of the code is that of the definitions. Assumes nothing.
+use Rattle.std.specs.Prelude as std
+use Rattle.std.specs.Prelude.{Some, None}
 use mathlib.Core.Path.{◌≡◌, refl, sym, ap, ◌∙◌}
 use mathlib.Core.Bool.{Bool, true, false}
 use mathlib.Core.List.{List, [], ◌∷◌}
@@ -14,8 +16,6 @@ use Rattle.answer.specs.declared.answer.Answer.{Answer}
 use Rattle.answer.specs.declared.answer.Answer.TheVariants.{Unresolved, Definition, Builtin, Withs}
 use Rattle.answer.specs.Answers.{answer_with}
 use Rattle.kept.specs.Answers.{withs_in, withs_at}
-use Rattle.builtins.specs.declared.lookup.MaybeBuiltin.{MaybeBuiltin}
-use Rattle.builtins.specs.declared.lookup.MaybeBuiltin.TheVariants.{Builtin as Number, Absent}
 use Rattle.builtins.specs.Lookup.{builtin_of}
 use Rattle.resolve.specs.Search.{found_of}
 use Rattle.resolve.specs.Withs.{some_of}
@@ -71,11 +71,11 @@ module _ (text_of : ℕ → Text) (scopes : List Scope) (t : Text) (ss : List �
   unfolding answer_in
   asked = ap (after_definitions scopes t ss) (sym found)
 
-  pub builtin_is : {r : MaybeBuiltin} {i : ℕ} → r ≡ Number i → builtin_of r ≡ unhidden (found_of f) (index_from 0 t builtins) → answer_with (Builtin i) (withs_of scopes ss) ≡ answer_in text_of scopes t ss
+  pub builtin_is : {r : std.Option ℕ} {i : ℕ} → r ≡ Some i → builtin_of r ≡ unhidden (found_of f) (index_from 0 t builtins) → answer_with (Builtin i) (withs_of scopes ss) ≡ answer_in text_of scopes t ss
   unfolding answer_with builtin_of
   builtin_is {r} {i} e h = sym (asked ∙ answered (found_of f) (some i) (sym h ∙ ap builtin_of e))
 
-  pub bound_is : {r : MaybeBuiltin} (b : Answer) → r ≡ Absent → builtin_of r ≡ unhidden (found_of f) (index_from 0 t builtins) → answer_with b (withs_of scopes ss) ≡ bound_or (found_of f) (withs_of scopes ss) → answer_with b (withs_of scopes ss) ≡ answer_in text_of scopes t ss
+  pub bound_is : {r : std.Option ℕ} (b : Answer) → r ≡ None → builtin_of r ≡ unhidden (found_of f) (index_from 0 t builtins) → answer_with b (withs_of scopes ss) ≡ bound_or (found_of f) (withs_of scopes ss) → answer_with b (withs_of scopes ss) ≡ answer_in text_of scopes t ss
   unfolding builtin_of
   bound_is {r} b e h q = q ∙ sym (asked ∙ answered (found_of f) none (sym h ∙ ap builtin_of e))
 

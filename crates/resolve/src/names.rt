@@ -15,19 +15,28 @@ ghost use Rattle.resolve.specs.Names.{unhidden, bound_or};
 use crate::search::innermost;
 use crate::withs::has_with;
 use answer::Answer;
-use builtins::{MaybeBuiltin, lookup_global_builtin};
+use builtins::lookup_global_builtin;
 use kept::scope_of;
 use layout::tables::ABSENT;
 use module::{ExprId, NameId, ScopeId, TextId};
 use texts::text_bytes;
 
 // The built-in name that a text is, where no definition hides it.
+<<<<<<< HEAD
 fn unhidden_builtin(found: Option<(ScopeId, NameId)>, sought: &[u8]) -> MaybeBuiltin
     ensures { builtin_of result ≡ unhidden (found_of found) (index_from 0 sought.now builtins) }
 {
     match found {
         Some((_, _)) => MaybeBuiltin::Absent,
         None => lookup_global_builtin(sought),
+=======
+fn unhidden_builtin(found: Found, sought: &[u8]) -> Option<u32>
+    ensures { builtin_of result ≡ unhidden (found_of found) (index_from 0 sought.now builtins) }
+{
+    match found {
+        Found::In(_, _) => None,
+        None => lookup_global_builtin(sought),
+>>>>>>> 038b64fc0a9e66a1c26aba2b579bd1481d1a2e79
     }
 }
 
@@ -54,8 +63,8 @@ fn resolve_in(store: &[u8], s: ScopeId, sought: &[u8], x: NameId, text: &[u8]) -
 {
     let found = innermost(store, s, sought, x, text);
     match unhidden_builtin(found, sought) {
-        MaybeBuiltin::Builtin(i) => Answer::Builtin(i),
-        MaybeBuiltin::Absent => bound_or_withs(store, s, found),
+        Some(i) => Answer::Builtin(i),
+        None => bound_or_withs(store, s, found),
     }
 }
 

@@ -1,6 +1,6 @@
 pub mod SoundLaws
+pub mod RangeLaws
 pub mod SoundCountLaws
-pub mod SoundRowLaws
 pub mod SoundTableLaws
 pub mod SoundVerdictLaws
 pub mod CodedLaws

@@ -1,30 +1,19 @@
--- Counts, and what they are held against: one law for each way out of the code. Assumes nothing.
+-- Counts that fit are within their limits. Assumes nothing.
 use mathlib.Core.Path.{◌≡◌}
-use mathlib.Core.Bool.{true, false, ◌&&◌, ◌||◌}
+use mathlib.Core.Bool.{true}
 use mathlib.Core.List.{List}
 use mathlib.Mathlib.Data.Bool.Basic.{and_elim_left, and_elim_right}
-use Prim.Native.Nat.{ℕ, ◌+◌, ◌*◌, ◌≤◌, ◌<◌}
+use Prim.Native.Nat.{ℕ, ◌+◌, ◌*◌, ◌≤◌}
 use native.Mathlib.Omega.{arith}
-use lib.Dec.{eqb, leb, ltb}
-use borrow.Author.Tests.{leb-true, lt-ltb, le-ltb}
+use lib.Dec.{leb}
+use borrow.Author.Tests.{leb-true}
 use Rattle.words.specs.Words.{word}
-use Rattle.layout.specs.Layout.{expr_limit, name_limit, diagnostic_limit, scope_limit, room_limit, loaded_text_limit, expr_count, name_count, diagnostic_count, lost_count, entry_place, scope_count, spent_place, texts_place, Long}
-use Rattle.soundness.specs.Sound.{counts_fit, entry_fits, expr_fits, name_fits}
+use Rattle.layout.specs.Layout.{expr_limit, name_limit, diagnostic_limit, scope_limit, room_limit, loaded_text_limit, expr_count, name_count, diagnostic_count, lost_count, scope_count, spent_place, texts_place, Long}
+use Rattle.soundness.specs.Sound.{counts_fit}
 use Rattle.soundness.specs.SoundCounts.{Taken, Counted}
 use Rattle.soundness.specs.declared.counts.Counts.{Counts}
 
--- ---- counts
 module _ (s : List ℕ) (c : Counts) (h : Taken s c) where
-  pub counts_are : (lost spent : ℕ) → lost ≡ word s lost_count → spent ≡ word s spent_place
-      → (leb c.exprs expr_limit && (leb c.names name_limit && (leb c.diagnostics diagnostic_limit && (leb lost diagnostic_limit && (leb c.scopes scope_limit && (leb spent room_limit && leb c.texts (loaded_text_limit + 5 * spent))))))) ≡ counts_fit s
-  unfolding counts_fit
-  counts_are lost spent l p = rw (h.exprs, h.names, h.diagnostics, h.scopes, h.texts, l, p)
-
-  pub entry_is : (entry : ℕ) → entry ≡ word s entry_place → (eqb c.exprs 0 || ltb entry c.exprs) ≡ entry_fits s
-  unfolding entry_fits expr_fits
-  entry_is entry e = rw (h.exprs, e)
-
-  -- counts that fit are within their limits
   pub counted : Long s → counts_fit s ≡ true → Counted s c
   unfolding counts_fit
   counted l f =
@@ -48,21 +37,3 @@ module _ (s : List ℕ) (c : Counts) (h : Taken s c) where
         few_scopes = rw h.scopes i;
         short_texts = rw h.texts (omega arith);
       }
-
-  -- ---- a name and an expression among those there are
-  module _ (k x : ℕ) (w : x ≡ word s k) where
-    pub name_fails : c.names ≤ x → name_fits s (word s k) ≡ false
-    unfolding name_fits
-    name_fails l = rw (← w, ← h.names) (le-ltb x c.names l)
-
-    pub name_passes : x < c.names → name_fits s (word s k) ≡ true
-    unfolding name_fits
-    name_passes l = rw (← w, ← h.names) (lt-ltb x c.names l)
-
-    pub expr_fails : c.exprs ≤ x → expr_fits s (word s k) ≡ false
-    unfolding expr_fits
-    expr_fails l = rw (← w, ← h.exprs) (le-ltb x c.exprs l)
-
-    pub expr_passes : x < c.exprs → expr_fits s (word s k) ≡ true
-    unfolding expr_fits
-    expr_passes l = rw (← w, ← h.exprs) (lt-ltb x c.exprs l)

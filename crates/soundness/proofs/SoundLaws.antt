@@ -8,7 +8,7 @@ use native.Mathlib.Nat.{not-suc-le-zero}
 use native.Mathlib.Numerals.{add-one}
 use native.Mathlib.Omega.{arith}
 use lib.Dec.{eqb, leb, ltb}
-use borrow.Author.Tests.{eqb-true, eqb-false, leb-true, ltb-false, lt-ltb, le-ltb, le-leb, lt-leb, eq-eqb, ne_eqb}
+use borrow.Author.Tests.{eqb-true, eqb-false, leb-true, ltb-false, le-ltb, le-leb, lt-leb, eq-eqb, ne_eqb}
 use Rattle.soundness.specs.Sound.{all_to, all_from, ascends}
 
 -- ---- two tests, one of which fails
@@ -65,26 +65,9 @@ module _ (f : ℕ → Bool) where
 
 -- ---- those from i on, before j
 module _ (f : ℕ → Bool) (i : ℕ) where
-  passed_over : (j : ℕ) → j ≤ i → all_to (λ k. ltb k i || f k) j ≡ true
-  unfolding all_to
-  passed_over zero l = refl
-  passed_over (suc j) l = and_intro (passed_over j (omega arith)) (rw (lt-ltb j i (omega arith)))
-
-  pub from_none : all_from f i i ≡ true
-  unfolding all_from
-  from_none = passed_over i (omega arith)
-
-  pub from_more : (j : ℕ) → i ≤ j → all_from f i j ≡ true → f j ≡ true → all_from f i (j + 1) ≡ true
-  unfolding all_from
-  from_more j l a h = all_more (λ k. ltb k i || f k) j a (rw (le-ltb j i l) h)
-
   pub from_fails : (n j : ℕ) → i ≤ j → j < n → f j ≡ false → all_from f i n ≡ false
   unfolding all_from
   from_fails n j l m h = all_fails (λ k. ltb k i || f k) n j m (rw (le-ltb j i l) h)
-
-  pub from_fewer : (j n : ℕ) → n ≤ j → all_from f i j ≡ true → all_from f i n ≡ true
-  unfolding all_from
-  from_fewer j n l h = all_fewer (λ k. ltb k i || f k) j n l h
 
   pub from_each : (j : ℕ) → ((k : ℕ) → i ≤ k → k < j → f k ≡ true) → all_from f i j ≡ true
   unfolding all_from
@@ -151,3 +134,7 @@ module _ (first : ℕ → ℕ) where
         let rest : (all_to (rises first) n && leb (first n) limit) ≡ true = and_elim_right (eqb (first 0) 0) (all_to (rises first) n && leb (first n) limit) h in
         let top : first n ≤ limit = leb-true (first n) limit (and_elim_right (all_to (rises first) n) (leb (first n) limit) rest) in
         omega (arith, up (and_elim_left (all_to (rises first) n) (leb (first n) limit) rest) n (omega arith) i l)
+
+    -- where the last list ends
+    pub last_within : (r : Bool) → r ≡ ascends first n limit → r ≡ true → (last : ℕ) → last ≡ first n → last ≤ limit
+    last_within r f t last e = rw e (below_limit (sym f ∙ t) n (omega arith))

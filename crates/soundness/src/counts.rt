@@ -1,13 +1,12 @@
 // The counts of a store: each within its limit, and the entry expression among the expressions.
 ghost use Rattle.std.specs.Prelude.{◌≡◌};
 ghost use Rattle.layout.specs.Layout.{Long};
-ghost use Rattle.soundness.specs.Sound.{counts_fit, entry_fits};
-ghost use Rattle.soundness.specs.SoundCounts.{Taken, Counted};
+ghost use Rattle.soundness.specs.Sound.{counts_fit};
+ghost use Rattle.soundness.specs.SoundCounts.{Taken};
 
 use layout::tables::{
-    DIAGNOSTIC_COUNT, DIAGNOSTIC_LIMIT, ENTRY_PLACE, EXPR_COUNT, EXPR_LIMIT, LOADED_TEXT_LIMIT,
-    LOST_COUNT, NAME_COUNT, NAME_LIMIT, ROOM_LIMIT, SCOPE_COUNT, SCOPE_LIMIT, SPENT_PLACE,
-    TEXTS_PLACE,
+    DIAGNOSTIC_COUNT, DIAGNOSTIC_LIMIT, EXPR_COUNT, EXPR_LIMIT, LOADED_TEXT_LIMIT, LOST_COUNT,
+    NAME_COUNT, NAME_LIMIT, ROOM_LIMIT, SCOPE_COUNT, SCOPE_LIMIT, SPENT_PLACE, TEXTS_PLACE,
 };
 use words::get32;
 
@@ -37,26 +36,17 @@ pub fn counts_of(store: &[u8]) -> Counts
 
 // The texts are held to less than their room, so that what the change room may still bring has a
 // place.
+#[tactic(auto, unfolding(crate::specs::Sound::counts_fit))]
 pub fn counts_fit(store: &[u8], counts: Counts) -> bool
     requires { Long store.now × Taken store.now counts }
     ensures { result ≡ counts_fit store.now }
 {
-    let lost = get32(store, LOST_COUNT);
     let spent = get32(store, SPENT_PLACE);
-    (counts.exprs <= EXPR_LIMIT)
-        & ((counts.names <= NAME_LIMIT)
-            & ((counts.diagnostics <= DIAGNOSTIC_LIMIT)
-                & ((lost <= DIAGNOSTIC_LIMIT)
-                    & ((counts.scopes <= SCOPE_LIMIT)
-                        & ((spent <= ROOM_LIMIT)
-                            & (counts.texts as usize
-                                <= LOADED_TEXT_LIMIT + 5 * (spent as usize)))))))
-}
-
-// With no expression there is no entry.
-pub fn entry_fits(store: &[u8], counts: Counts) -> bool
-    requires { Counted store.now counts }
-    ensures { result ≡ entry_fits store.now }
-{
-    (counts.exprs == 0) | (get32(store, ENTRY_PLACE) < counts.exprs)
+    counts.exprs <= EXPR_LIMIT
+        && counts.names <= NAME_LIMIT
+        && counts.diagnostics <= DIAGNOSTIC_LIMIT
+        && get32(store, LOST_COUNT) <= DIAGNOSTIC_LIMIT
+        && counts.scopes <= SCOPE_LIMIT
+        && spent <= ROOM_LIMIT
+        && counts.texts as usize <= LOADED_TEXT_LIMIT + 5 * (spent as usize)
 }

@@ -16,16 +16,12 @@ pub fn firsts_ascend(store: &[u8], at: usize, stride: usize, n: u32, limit: u32)
     if last != 0 {
         return false;
     }
-    let mut place = at;
-    let mut i = 0;
-    while i < n {
-        place += stride;
-        let next = get32(store, place);
+    for i in 0..n {
+        let next = get32(store, at + stride * (i as usize + 1));
         if next < last {
             return false;
         }
         last = next;
-        i += 1;
     }
     last <= limit
 }

@@ -2,16 +2,17 @@
 ghost use Rattle.std.specs.Prelude.{◌≡◌, ◌<◌, ◌≤◌};
 ghost use Rattle.layout.specs.Layout.{item_limit};
 ghost use Rattle.soundness.specs.Sound.{tag_fits, numbers_fit, item_fits, all_from};
-ghost use Rattle.soundness.specs.SoundCounts.{Counted};
 
-use crate::counts::Counts;
+use crate::counted::CountedStore;
 use layout::tables::{ITEM_ROW, ITEMS};
 use module::ExprId;
+use rows::ItemRow;
 use texts::text_fits;
 use words::get32;
 
 // Lambdas have pattern fields; a let and the two attribute sets have bindings, whose sources of
 // inherits are children; lists and attribute paths have children, and interpolations parts.
+#[tactic(auto, unfolding(crate::specs::Sound::tag_fits))]
 fn tag_fits(sort: u32, tag: u32) -> bool
     ensures { result ≡ tag_fits sort tag }
 {
@@ -29,51 +30,42 @@ fn tag_fits(sort: u32, tag: u32) -> bool
     }
 }
 
-fn numbers_fit(store: &[u8], counts: Counts, e: ExprId, tag: u32, a: u32, b: u32) -> bool
-    requires { Counted store.now counts }
-    ensures { result ≡ numbers_fit store.now e.0 tag a b }
-{
-    match tag {
-        0 => a < e.0,
-        1 => text_fits(store, counts.texts, a),
-        2 => true,
-        3 => a < counts.names,
-        4 => b < e.0,
-        5..=8 => (a < counts.names) & (b < e.0),
-        _ => (a < e.0) & (b < e.0),
-    }
-}
-
-fn item_fits(store: &[u8], counts: Counts, e: ExprId, sort: u32, j: u32) -> bool
-    requires { Counted store.now counts × (j < item_limit) }
-    ensures { result ≡ item_fits store.now e.0 sort j }
-{
-    let at = ITEMS + ITEM_ROW * (j as usize);
-    let tag = get32(store, at);
-    if !tag_fits(sort, tag) {
-        return false;
-    }
-    numbers_fit(
-        store,
-        counts,
-        e,
-        tag,
-        get32(store, at + 4),
-        get32(store, at + 8),
-    )
-}
-
-// The items from `from` on, before `to`.
-pub fn items_fit(store: &[u8], counts: Counts, e: ExprId, sort: u32, from: u32, to: u32) -> bool
-    requires { Counted store.now counts × (to ≤ item_limit) }
-    ensures { result ≡ all_from (item_fits store.now e.0 sort) from to }
-{
-    let mut j = from;
-    while j < to {
-        if !item_fits(store, counts, e, sort, j) {
-            return false;
+impl CountedStore<'_> {
+    #[tactic(auto, unfolding(crate::specs::Sound::numbers_fit, crate::specs::Sound::name_fits))]
+    fn numbers_fit(&self, e: ExprId, item: ItemRow) -> bool
+        ensures { result ≡ numbers_fit self.now.store.now e.0 item.tag item.a item.b }
+    {
+        let ItemRow { tag, a, b } = item;
+        match tag {
+            0 => a < e.0,
+            1 => text_fits(self.store, self.counts.texts, a),
+            2 => true,
+            3 => a < self.counts.names,
+            4 => b < e.0,
+            5..=8 => (a < self.counts.names) & (b < e.0),
+            _ => (a < e.0) & (b < e.0),
         }
-        j += 1;
     }
-    true
+
+    #[tactic(auto, unfolding(crate::specs::Sound::item_fits))]
+    fn item_fits(&self, e: ExprId, sort: u32, j: u32) -> bool
+        requires { j < item_limit }
+        ensures { result ≡ item_fits self.now.store.now e.0 sort j }
+    {
+        let at = ITEMS + ITEM_ROW * (j as usize);
+        let item = ItemRow {
+            tag: get32(self.store, at),
+            a: get32(self.store, at + 4),
+            b: get32(self.store, at + 8),
+        };
+        tag_fits(sort, item.tag) && self.numbers_fit(e, item)
+    }
+
+    // The items from `from` on, before `to`.
+    pub fn items_fit(&self, e: ExprId, sort: u32, from: u32, to: u32) -> bool
+        requires { to ≤ item_limit }
+        ensures { result ≡ all_from (item_fits self.now.store.now e.0 sort) from to }
+    {
+        (from..to).all(|j| self.item_fits(e, sort, j))
+    }
 }

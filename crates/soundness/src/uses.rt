@@ -3,63 +3,57 @@ ghost use Rattle.std.specs.Prelude.{◌≡◌, ◌+◌, ◌*◌, ◌<◌, ◌≤
 ghost use Rattle.words.specs.Words.{word};
 ghost use Rattle.layout.specs.Layout.{references_at, reference_limit};
 ghost use Rattle.soundness.specs.Sound.{all_to, expr_fits, use_fits, kept_fits};
-ghost use Rattle.soundness.specs.SoundCounts.{Counted};
 
-use crate::counts::Counts;
+use crate::counted::CountedStore;
 use crate::firsts::firsts_ascend;
 use layout::tables::{FIRSTS, REFERENCE_LIMIT, REFERENCES, USE_ROW, USES};
 use module::ExprId;
 use words::get32;
 
-// A scope stands one too high, with 0 for none; an answer is a name from 24 on.
-fn use_fits(store: &[u8], counts: Counts, e: ExprId) -> bool
-    requires { Counted store.now counts × (e.0 < counts.exprs) }
-    ensures { result ≡ use_fits store.now e.0 }
-{
-    let at = USES + USE_ROW * (e.0 as usize);
-    (get32(store, at) <= counts.scopes) & (get32(store, at + 4) < 24 + counts.names)
-}
+impl CountedStore<'_> {
+    // A scope stands one too high, with 0 for none; an answer is a name from 24 on.
+    #[tactic(auto, unfolding(crate::specs::Sound::use_fits))]
+    fn use_fits(&self, e: ExprId) -> bool
+        requires { e.0 < self.now.counts.exprs }
+        ensures { result ≡ use_fits self.now.store.now e.0 }
+    {
+        let at = USES + USE_ROW * (e.0 as usize);
+        (get32(self.store, at) <= self.counts.scopes)
+            & (get32(self.store, at + 4) < 24 + self.counts.names)
+    }
 
-fn uses_fit(store: &[u8], counts: Counts) -> bool
-    requires { Counted store.now counts }
-    ensures { result ≡ all_to (use_fits store.now) counts.exprs }
-{
-    let n = counts.exprs;
-    let mut e = 0;
-    while e < n {
-        if !use_fits(store, counts, ExprId(e)) {
+    fn uses_fit(&self) -> bool
+        ensures { result ≡ all_to (use_fits self.now.store.now) self.now.counts.exprs }
+    {
+        (0..self.counts.exprs).all(|e| self.use_fits(ExprId(e)))
+    }
+
+    #[tactic(auto, unfolding(crate::specs::Sound::expr_fits))]
+    fn reference_row_fits(&self, j: u32) -> bool
+        requires { j < reference_limit }
+        ensures { result ≡ expr_fits self.now.store.now (word self.now.store.now (references_at + 4 * j)) }
+    {
+        get32(self.store, REFERENCES + 4 * (j as usize)) < self.counts.exprs
+    }
+
+    fn references_fit(&self, n: u32) -> bool
+        requires { n ≤ reference_limit }
+        ensures { result ≡ all_to (λ j. expr_fits self.now.store.now (word self.now.store.now (references_at + 4 * j))) n }
+    {
+        (0..n).all(|j| self.reference_row_fits(j))
+    }
+
+    #[tactic(auto, unfolding(crate::specs::Sound::kept_fits, layout::specs::Keeps::first_reference))]
+    pub fn kept_fits(&self) -> bool
+        ensures { result ≡ kept_fits self.now.store.now }
+    {
+        let names = self.counts.names;
+        if !self.uses_fit() {
             return false;
         }
-        e += 1;
-    }
-    true
-}
-
-fn references_fit(store: &[u8], counts: Counts, n: u32) -> bool
-    requires { Counted store.now counts × (n ≤ reference_limit) }
-    ensures { result ≡ all_to (λ j. expr_fits store.now (word store.now (references_at + 4 * j))) n }
-{
-    let exprs = counts.exprs;
-    let mut j = 0;
-    while j < n {
-        if exprs <= get32(store, REFERENCES + 4 * (j as usize)) {
+        if !firsts_ascend(self.store, FIRSTS, 4, names, REFERENCE_LIMIT) {
             return false;
         }
-        j += 1;
+        self.references_fit(get32(self.store, FIRSTS + 4 * (names as usize)))
     }
-    true
-}
-
-pub fn kept_fits(store: &[u8], counts: Counts) -> bool
-    requires { Counted store.now counts }
-    ensures { result ≡ kept_fits store.now }
-{
-    let names = counts.names;
-    if !uses_fit(store, counts) {
-        return false;
-    }
-    if !firsts_ascend(store, FIRSTS, 4, names, REFERENCE_LIMIT) {
-        return false;
-    }
-    references_fit(store, counts, get32(store, FIRSTS + 4 * (names as usize)))
 }

@@ -6,53 +6,40 @@ ghost use Rattle.layout.specs.Layout.{Long};
 ghost use Rattle.soundness.specs.Sound.{sound, condition_of};
 ghost use Rattle.soundness.specs.Verdict.{verdict};
 
-use crate::conditions::Condition;
-use crate::counts::{counts_fit, counts_of, entry_fits};
-use crate::exprs::exprs_fit;
-use crate::names::{diagnostics_fit, names_fit};
-use crate::scopes::scopes_fit;
-use crate::uses::kept_fits;
+use crate::conditions::Unfit;
+use crate::counted::CountedStore;
 use layout::tables::{EXPR_COUNT, STORE_BYTES};
 use words::get32;
 
+#[tactic(auto, unfolding(crate::specs::Sound::sound))]
 pub fn sound(store: &[u8]) -> bool
     requires { Long store.now }
     ensures { result ≡ sound store.now }
 {
-    let counts = counts_of(store);
-    if !counts_fit(store, counts) {
+    let Some(rows) = CountedStore::new(store) else {
         return false;
-    }
-    if !entry_fits(store, counts) {
-        return false;
-    }
-    if !exprs_fit(store, counts) {
-        return false;
-    }
-    if !names_fit(store, counts) {
-        return false;
-    }
-    if !diagnostics_fit(store, counts) {
-        return false;
-    }
-    if !scopes_fit(store, counts) {
-        return false;
-    }
-    kept_fits(store, counts)
+    };
+    rows.entry_fits()
+        && rows.exprs_fit()
+        && rows.names_fit()
+        && rows.diagnostics_fit()
+        && rows.scopes_fit()
+        && rows.kept_fits()
 }
 
 // 21 before 22 before 23.
-pub fn condition(store: &[u8]) -> Condition
+#[tactic(auto, unfolding(crate::specs::Verdict::verdict, crate::specs::Sound::condition_of))]
+pub fn condition(store: &[u8]) -> Result<(), Unfit>
     ensures { result ≡ verdict (condition_of store.now) }
 {
     if store.len() < STORE_BYTES {
-        return Condition::Short;
+        return Err(Unfit::Short);
     }
     if !sound(store) {
-        return Condition::Unsound;
+        return Err(Unfit::Unsound);
     }
     if get32(store, EXPR_COUNT) == 0 {
-        return Condition::Unloaded;
+        return Err(Unfit::Unloaded);
     }
-    Condition::Fit
+    Ok(())
 }

@@ -1,15 +1,15 @@
 -- `change::change_name` meets its contract.
-use Rattle.requests.proofs.StateLaws.{goes_on, rest_fits, stopped_changed}
+use Rattle.requests.proofs.StateLaws.{goes_on_same, goes_on_fit, refusal_changed}
 use Rattle.spec.specs.Calls.{reply_of}
 use mathlib.Core.Path.{refl}
 use Rattle.change.proofs.change_name.Goals as goal
 
-pub returns-then-why-ne0 : goal.returns-then-why-ne0
-unfolding reply_of
-returns-then-why-ne0 c = stopped_changed c.begin-why.ensures c.if-why-ne0.true _ refl _
-
 pub set_name-requires : goal.set_name-requires
-set_name-requires c = rest_fits c.begin-why.ensures c.if-why-ne0.false
+set_name-requires c = goes_on_fit c.in-Ok.ensures
 
-pub returns : goal.returns
-returns c = rw (goes_on c.begin-why.ensures c.if-why-ne0.false) at c.set_name.ensures
+pub returns-in-Ok : goal.returns-in-Ok
+returns-in-Ok c = rw (goes_on_same c.in-Ok.ensures) at c.set_name.ensures
+
+pub returns-in-Err : goal.returns-in-Err
+unfolding reply_of
+returns-in-Err c = refusal_changed _ c.in-Err.ensures _ refl _ _ c.number.ensures

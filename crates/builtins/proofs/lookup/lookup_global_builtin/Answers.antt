@@ -1,32 +1,26 @@
 -- `builtins::lookup::lookup_global_builtin` meets its contract.
-use Rattle.builtins.proofs.LookupLaws.{name_found, name_passed, name_lacked}
-use mathlib.Core.Path.{refl}
-use native.Mathlib.Omega.{arith}
+use Rattle.std.proofs.Common.{rules, Some, None, map}
+use Rattle.std.proofs.lemmas.Iterator.{YieldsList-from_slice, IsFirst-from_position}
+use Rattle.spec.specs.Basics.{Text}
+use Rattle.spec.specs.Answer.{builtins}
+use Rattle.builtins.proofs.LookupLaws.{looked, Is, IsNot}
+use borrow.Author.Tests.{tests}
+use denote.Ref.{Bor}
+use mathlib.Core.List.{List}
+use mathlib.Core.Path.{refl, ap}
 use Rattle.builtins.proofs.lookup.lookup_global_builtin.Goals as goal
 
-pub first_byte-first-requires : goal.first_byte-first-requires
-first_byte-first-requires c = omega arith
-
-pub loop-i-init : goal.loop-i-init
-loop-i-init c = refl
-
-pub is_name-requires : goal.is_name-requires
-is_name-requires c = (c.first_byte-first.ensures, c.loop-i-test.true)
-
-pub overflow_cast-result : goal.overflow_cast-result
-overflow_cast-result c = omega arith
-
-pub returns-then-is_name : goal.returns-then-is_name
-returns-then-is_name c = name_found _ _ c.loop-i.invariant _ c.loop-i-test.true c.is_name.ensures c.if-is_name.true
-
-pub overflow_add-i : goal.overflow_add-i
-overflow_add-i c = omega arith
-
-pub loop-i-smaller : goal.loop-i-smaller
-loop-i-smaller c = omega arith
-
-pub loop-i-preserved : goal.loop-i-preserved
-loop-i-preserved c = name_passed _ _ c.loop-i.invariant _ c.loop-i-test.true c.is_name.ensures c.if-is_name.false
+pub returns-in_err-i : goal.returns-in_err-i
+unfolding builtins
+returns-in_err-i c =
+    let t = c.args.text.now in
+    rw c.from_residual.ensures
+    (looked t c.iter.result.rest.now (ap (λ (xs : List (Bor Text)). map (λ name. name.now) xs) c.iter.ensures.rest) None
+    (IsFirst-from_position _ _ None (Is t) (IsNot t) c.in_err-i.ensures.ran (YieldsList-from_slice c.iter.result.rest.now refl) (λ x q k. search (rules, tests)) (λ x q k. search (rules, tests))))
 
 pub returns : goal.returns
-returns c = name_lacked _ _ c.loop-i.invariant c.loop-i-test.false
+unfolding builtins
+returns c =
+    let t = c.args.text.now in
+    looked t c.iter.result.rest.now (ap (λ (xs : List (Bor Text)). map (λ name. name.now) xs) c.iter.ensures.rest) (Some c.in_ok-i.i)
+    (IsFirst-from_position _ _ (Some c.in_ok-i.i) (Is t) (IsNot t) c.in_ok-i.ensures.ran (YieldsList-from_slice c.iter.result.rest.now refl) (λ x q k. search (rules, tests)) (λ x q k. search (rules, tests)))

@@ -1,0 +1,9 @@
+-- `soundness::counted::CountedStore::rows_fit` meets its contract.
+use Rattle.std.proofs.Common.{rules}
+use Rattle.soundness.proofs.RangeLaws.{all_of_rows}
+use Rattle.soundness.specs.Sound.{row_fits}
+use mathlib.Core.Path.{refl}
+use Rattle.soundness.proofs.counted.CountedStore.rows_fit.Goals as goal
+
+pub returns : goal.returns
+returns c = all_of_rows (row_fits c.args.self.now.store.now) _ _ c.all.ensures.ran (λ x b q k. search rules) _ refl
