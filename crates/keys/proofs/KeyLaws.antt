@@ -3,10 +3,13 @@ use mathlib.Core.Path.{◌≡◌, sym, ap, ◌∙◌}
 use mathlib.Core.Bool.{true, false}
 use mathlib.Core.List.{List, [], ◌∷◌}
 use mathlib.Core.Option.{Option, none, some}
-use Prim.Native.Nat.{ℕ}
+use Prim.Native.Nat.{ℕ, ◌+◌, ◌≤◌, ◌<◌}
+use native.Mathlib.Omega.{arith}
+use lib.ListN.{length}
 use borrow.Author.Tests.{eq-eqb, ne_eqb}
 use Rattle.spec.specs.Basics.{Text, NodeId, ExprId}
 use Rattle.spec.specs.Sheet.{Node}
+use Rattle.spec.specs.Tree.{node_at}
 use Rattle.spec.specs.Keys as spec
 use Rattle.spec.specs.Keys.{kind, flag, text, kid, items, flatten_paren, literal_of, get_str_literal, str_key, inside_dynamic, attr_kind}
 use Rattle.spec.specs.Lower.{has_interpolation}
@@ -25,7 +28,7 @@ use Rattle.keys.specs.AstUtils.{ident_name, set_kind, Interpolated}
 use Rattle.module.specs.declared.ids.MaybeText.{MaybeText}
 use Rattle.module.specs.declared.ids.MaybeText.TheVariants as maybe_text_lem
 use Rattle.keys.proofs.AnswerLaws.{text_there, text_missing}
-use Rattle.keys.proofs.ItemLaws.{items_are}
+use Rattle.keys.proofs.ItemLaws.{items_are, items_past, items_none, items_some}
 
 -- ---- by the flag of a node
 module _ (nodes : List Node) (n : NodeId) (f : ℕ) (e : f ≡ flag nodes n) where
@@ -74,19 +77,23 @@ pub record Seeking (nodes : List Node) (n : NodeId) (at : ℕ) : Type 0 where
 pub seeking_start : (nodes : List Node) (n : NodeId) → Seeking nodes n 0
 seeking_start nodes n = record { same = λ lower merge. ap (has_interpolation nodes lower merge) (sym (items_are nodes n)) }
 
-module _ {nodes : List Node} {n : NodeId} {at : ℕ} (s : Seeking nodes n at) where
-  pub seeking_end : items_from nodes at n ≡ [] → Interpolated nodes n false
+module _ {nodes : List Node} {n : NodeId} {i : ℕ} (s : Seeking nodes n i) (count : ℕ) (c : count ≡ length (node_at nodes n).kids) where
+  pub seeking_end : count ≤ i → Interpolated nodes n false
   unfolding has_interpolation
-  seeking_end e = record { says = λ lower merge. sym (s.same lower merge ∙ ap (has_interpolation nodes lower merge) e) }
+  seeking_end h = record { says = λ lower merge. sym (s.same lower merge ∙ ap (has_interpolation nodes lower merge) (items_past nodes n i (omega arith))) }
 
-  module _ (p i : ℕ) (a : First nodes at n p i) (k : ℕ) (e : k ≡ kind nodes p) where
-    pub seeking_found : k ≡ 33 → Interpolated nodes n true
-    unfolding has_interpolation
-    seeking_found h = record { says = λ lower merge. sym (s.same lower merge ∙ rw (a.items, ← e, eq-eqb k 33 h)) }
+  module _ (l : i < count) where
+    pub seeking_absent : none ≡ kid nodes i n → Seeking nodes n (i + 1)
+    seeking_absent e = let x = items_none nodes n i (omega arith) e in record { same = λ lower merge. rw x at (s.same lower merge) }
 
-    pub seeking_more : (k ≡ 33 → ⊥) → Seeking nodes n i
-    unfolding has_interpolation
-    seeking_more h = record { same = λ lower merge. s.same lower merge ∙ rw (a.items, ← e, ne_eqb k 33 h) }
+    module _ (p : NodeId) (e : some p ≡ kid nodes i n) (k : ℕ) (is : k ≡ kind nodes p) where
+      pub seeking_found : k ≡ 33 → Interpolated nodes n true
+      unfolding has_interpolation
+      seeking_found h = record { says = λ lower merge. sym (s.same lower merge ∙ rw (items_some nodes n i (omega arith) p e, ← is, eq-eqb k 33 h)) }
+
+      pub seeking_more : (k ≡ 33 → ⊥) → Seeking nodes n (i + 1)
+      unfolding has_interpolation
+      seeking_more h = record { same = λ lower merge. s.same lower merge ∙ rw (items_some nodes n i (omega arith) p e, ← is, ne_eqb k 33 h) }
 
 -- ---- keys
 module _ (s : List ℕ) (nodes : List Node) (n : NodeId) (m : MaybeText) (e : maybe_text s m ≡ get_str_literal nodes n) where

@@ -1,13 +1,15 @@
 -- The number that a text says, capped, one byte after the other. Assumes nothing.
+use Rattle.std.specs.List.{fold}
 use mathlib.Core.Path.{◌≡◌, refl, sym, ◌∙◌}
-use mathlib.Core.List.{[], ◌∷◌}
-use Prim.Native.Nat.{ℕ, ◌+◌, ◌-◌, ◌*◌, ◌≤◌, ◌<◌}
-use native.Mathlib.Numerals.{add-one}
+use mathlib.Core.List.{List, [], ◌∷◌}
+use Prim.Native.Nat.{ℕ, ◌+◌, ◌-◌, ◌*◌, ◌≤◌}
 use native.Mathlib.Omega.{arith}
-use lib.ListN.{length, drop, get_or, drop_of_length-le}
-use lib.Seq.{drop-cons}
+use lib.ListN.{take, drop}
+use Rattle.words.specs.Runs.{run}
 use Rattle.spec.specs.Basics.{Text}
 use Rattle.spec.specs.Sheet.{bits_from, value_from}
+use Rattle.layout.specs.Texts.{text_in}
+use Rattle.texts.specs.Reads.{Lies}
 use Rattle.keys.specs.Literals.{capped, one_more, number_from}
 use Rattle.keys.specs.declared.literals.Spelling.{Spelling}
 use Rattle.keys.specs.declared.literals.Spelling.TheVariants.{Digits, Bytes}
@@ -34,25 +36,15 @@ number_capped p [] v = omega arith
 number_capped p (c ∷ t) v =
     sym (number_capped p t (one_more p (capped v) c)) ∙ rw (one_capped p v c) (number_capped p t (one_more p v c))
 
--- ---- the loop: what is left of the text says the number
-pub record Counting (p : Spelling) (t : Text) (value i : ℕ) : Type 0 where
-  pub small : value ≤ 9223372036854775808
-  pub same : capped (number_from p 0 t) ≡ capped (number_from p value (drop i t))
+-- ---- the bytes of a text, lent from the store, are taken one after the other
+folded : (p : Spelling) (t : Text) (v : ℕ) → v ≤ 9223372036854775808 → fold (λ w c. capped (one_more p w c)) v t ≡ capped (number_from p v t)
+unfolding number_from
+folded p [] v h = omega arith
+folded p (c ∷ t) v h = folded p t (capped (one_more p v c)) (omega arith) ∙ number_capped p t (one_more p v c)
 
-pub counting_start : (p : Spelling) (t : Text) → Counting p t 0 0
-counting_start p t = record { small = omega arith; same = refl }
-
-module _ {p : Spelling} {t : Text} {value i : ℕ} (r : Counting p t value i) (count : ℕ) (e : count ≡ length t) where
-  pub counting_more : i < count → (c : ℕ) → c ≡ get_or t i 0 → (w : ℕ) → w ≡ capped (one_more p value c) → Counting p t w (i + 1)
-  unfolding number_from
-  counting_more h c q w f =
-      let l : i < length t = omega arith in
-      let next : capped (number_from p value (drop i t)) ≡ capped (number_from p (one_more p value c) (drop (i + 1) t)) = rw (add-one, drop-cons t i 0 l, q) in
-      record { small = omega (arith, f); same = r.same ∙ next ∙ rw f (sym (number_capped p (drop (i + 1) t) (one_more p value c))) }
-
-  pub counting_end : count ≤ i → value ≡ capped (number_from p 0 t)
-  unfolding number_from
-  counting_end h =
-      let past : length t ≤ i = omega arith in
-      let done : capped (number_from p value (drop i t)) ≡ capped value = rw (drop_of_length-le t past) in
-      omega (arith, r.same, done, r.small)
+pub number_folded : (s : List ℕ) (t at n : ℕ) → Lies s t at n → (p : Spelling) {r : ℕ} → r ≡ fold (λ w c. capped (one_more p w c)) 0 (take (at + n - at) (drop at s)) → r ≡ capped (number_from p 0 (text_in s t))
+unfolding run
+number_folded s t at n lies p h =
+    let e : at + n - at ≡ n = omega arith in
+    let lent : take (at + n - at) (drop at s) ≡ text_in s t = rw e (sym lies.same) in
+    h ∙ folded p (take (at + n - at) (drop at s)) 0 (omega arith) ∙ rw lent

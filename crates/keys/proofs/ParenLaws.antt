@@ -3,7 +3,7 @@ use mathlib.Core.Path.{◌≡◌, refl, sym, ap, ◌∙◌}
 use mathlib.Core.Bool.{true, false}
 use mathlib.Core.List.{List}
 use mathlib.Core.Option.{none, some}
-use Prim.Native.Nat.{ℕ, zero, suc, ◌-◌, ◌<◌, ◌≤◌}
+use Prim.Native.Nat.{ℕ, zero, suc, ◌+◌, ◌-◌, ◌<◌, ◌≤◌}
 use native.Mathlib.Omega.{arith}
 use lib.Dec.{eqb}
 use borrow.Author.Tests.{eq-eqb, ne_eqb}
@@ -31,36 +31,36 @@ module _ (nodes : List Node) where
   unfolding flatten_paren
   flatten_paren_lem left n e = rw (e, flatten_paren)
 
--- ---- the loop: what is left to do gives what was to be done
-pub record Flattening (nodes : List Node) (place cur : MaybeNode) (left : ℕ) : Type 0 where
-  pub same : flatten_paren nodes 256 (node_of place) ≡ flatten_paren nodes left (node_of cur)
+-- ---- the loop: what is left to do after so many turns gives what was to be done
+pub record Flattening (nodes : List Node) (place cur : MaybeNode) (turns : ℕ) : Type 0 where
+  pub same : flatten_paren nodes 256 (node_of place) ≡ flatten_paren nodes (256 - turns) (node_of cur)
 
-pub flattening_start : (nodes : List Node) (place : MaybeNode) → Flattening nodes place place 256
+pub flattening_start : (nodes : List Node) (place : MaybeNode) → Flattening nodes place place 0
 flattening_start nodes place = record { same = refl }
 
-module _ {nodes : List Node} {place cur : MaybeNode} {left : ℕ} (f : Flattening nodes place cur left) where
+module _ {nodes : List Node} {place cur : MaybeNode} {turns : ℕ} (f : Flattening nodes place cur turns) where
   pub flattened_none : cur ≡ maybe_node.Absent → none ≡ flatten_paren nodes 256 (node_of place)
   unfolding node_of
-  flattened_none q = flatten_none nodes left ∙ sym (f.same ∙ ap (λ m. flatten_paren nodes left (node_of m)) q)
+  flattened_none q = flatten_none nodes (256 - turns) ∙ sym (f.same ∙ ap (λ m. flatten_paren nodes (256 - turns) (node_of m)) q)
 
-  pub flattened_out : left ≤ 0 → node_of cur ≡ flatten_paren nodes 256 (node_of place)
+  pub flattened_out : 256 ≤ turns → node_of cur ≡ flatten_paren nodes 256 (node_of place)
   unfolding flatten_paren
-  flattened_out h = let z : left ≡ 0 = omega arith in sym (f.same ∙ ap (λ l. flatten_paren nodes l (node_of cur)) z)
+  flattened_out h = let z : 256 - turns ≡ 0 = omega arith in sym (f.same ∙ ap (λ l. flatten_paren nodes l (node_of cur)) z)
 
   module _ (n : code_id.NodeId) (q : cur ≡ maybe_node.Node n) (k : ℕ) (e : k ≡ kind nodes n.0) where
     pub flattened_other : (k ≡ 15 → ⊥) → some n.0 ≡ flatten_paren nodes 256 (node_of place)
     unfolding node_of
     flattened_other h =
-        flatten_other nodes left n.0 (ap (λ x. eqb x 15) (sym e) ∙ ne_eqb k 15 h) ∙ sym (f.same ∙ ap (λ m. flatten_paren nodes left (node_of m)) q)
+        flatten_other nodes (256 - turns) n.0 (ap (λ x. eqb x 15) (sym e) ∙ ne_eqb k 15 h) ∙ sym (f.same ∙ ap (λ m. flatten_paren nodes (256 - turns) (node_of m)) q)
 
-    pub flattening_more : k ≡ 15 → 0 < left → (m : MaybeNode) → node_of m ≡ kid nodes 0 n.0 → Flattening nodes place m (left - 1)
+    pub flattening_more : k ≡ 15 → turns < 256 → (m : MaybeNode) → node_of m ≡ kid nodes 0 n.0 → Flattening nodes place m (turns + 1)
     unfolding node_of
     flattening_more h l m g =
-        let s : left ≡ suc (left - 1) = omega arith in
+        let s : 256 - turns ≡ suc (256 - (turns + 1)) = omega arith in
         record {
           same =
-              f.same ∙ ap (λ m. flatten_paren nodes left (node_of m)) q
+              f.same ∙ ap (λ m. flatten_paren nodes (256 - turns) (node_of m)) q
               ∙ ap (λ x. flatten_paren nodes x (some n.0)) s
-              ∙ flatten_paren_lem nodes (left - 1) n.0 (ap (λ x. eqb x 15) (sym e) ∙ eq-eqb k 15 h)
-              ∙ ap (flatten_paren nodes (left - 1)) (sym g);
+              ∙ flatten_paren_lem nodes (256 - (turns + 1)) n.0 (ap (λ x. eqb x 15) (sym e) ∙ eq-eqb k 15 h)
+              ∙ ap (flatten_paren nodes (256 - (turns + 1))) (sym g);
         }

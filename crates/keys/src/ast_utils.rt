@@ -10,7 +10,7 @@ ghost use Rattle.layout.specs.Texts.{maybe_text};
 ghost use Rattle.keys.specs.AstUtils.{attr_kind_of, ident_name, set_kind, Interpolated};
 
 use crate::items::{NextItem, next_item};
-use intake::{kid, node_flag, node_kind, node_text};
+use intake::{kid, kid_count, node_flag, node_kind, node_text};
 use layout::tables::ABSENT;
 use module::{MaybeNode, MaybeText, NameKind, NodeId, TextId};
 
@@ -44,8 +44,7 @@ pub fn flatten_paren(store: &[u8], place: MaybeNode) -> MaybeNode
     ensures { node_of result ≡ flatten_paren (nodes_of store.now) 256 (node_of place) }
 {
     let mut cur = place;
-    let mut left = DEPTH;
-    while 0 < left {
+    for _ in 0..DEPTH {
         match cur {
             MaybeNode::Absent => {
                 return MaybeNode::Absent;
@@ -57,7 +56,6 @@ pub fn flatten_paren(store: &[u8], place: MaybeNode) -> MaybeNode
                 cur = kid(store, n, 0);
             }
         }
-        left -= 1;
     }
     cur
 }
@@ -107,20 +105,14 @@ pub fn has_interpolation(store: &[u8], n: NodeId) -> bool
     requires { Long store.now }
     ensures { Interpolated (nodes_of store.now) n.0 result }
 {
-    let mut at: u32 = 0;
-    loop {
-        match next_item(store, n, at) {
-            NextItem::End => {
-                return false;
-            }
-            NextItem::Item(part, next) => {
-                if node_kind(store, part) == INTERPOLATION {
-                    return true;
-                }
-                at = next;
+    for i in 0..kid_count(store, n) {
+        if let MaybeNode::Node(part) = kid(store, n, i) {
+            if node_kind(store, part) == INTERPOLATION {
+                return true;
             }
         }
     }
+    false
 }
 
 // The key that a Str is.

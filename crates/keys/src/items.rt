@@ -18,16 +18,9 @@ pub fn next_item(store: &[u8], n: NodeId, i: u32) -> NextItem
     requires { Long store.now }
     ensures { Next (nodes_of store.now) i n.0 result }
 {
-    let count = kid_count(store, n);
-    let mut at = i;
-    while at < count {
-        match kid(store, n, at) {
-            MaybeNode::Node(k) => {
-                return NextItem::Item(k, at + 1);
-            }
-            MaybeNode::Absent => {
-                at += 1;
-            }
+    for at in i..kid_count(store, n) {
+        if let MaybeNode::Node(k) = kid(store, n, at) {
+            return NextItem::Item(k, at + 1);
         }
     }
     NextItem::End
