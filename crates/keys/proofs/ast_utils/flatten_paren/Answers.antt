@@ -1,10 +1,7 @@
 -- `keys::ast_utils::flatten_paren` meets its contract.
-use Rattle.keys.proofs.ParenLaws.{flattening_start, flattening_more, flattened_none, flattened_out, flattened_other}
+use Rattle.keys.proofs.ParenLaws.{flattening_more, flattened_none, flattened_out, flattened_other}
 use Rattle.module.specs.Ids.{node_of}
 use Rattle.keys.proofs.ast_utils.flatten_paren.Goals as goal
-
-pub loop-init : goal.loop-init
-loop-init c = flattening_start _ _
 
 pub returns-in-Absent : goal.returns-in-Absent
 unfolding node_of
