@@ -35,9 +35,6 @@ module _ (nodes : List Node) where
 pub record Flattening (nodes : List Node) (place cur : MaybeNode) (turns : ℕ) : Type 0 where
   pub same : flatten_paren nodes 256 (node_of place) ≡ flatten_paren nodes (256 - turns) (node_of cur)
 
-pub flattening_start : (nodes : List Node) (place : MaybeNode) → Flattening nodes place place 0
-flattening_start nodes place = record { same = refl }
-
 module _ {nodes : List Node} {place cur : MaybeNode} {turns : ℕ} (f : Flattening nodes place cur turns) where
   pub flattened_none : cur ≡ maybe_node.Absent → none ≡ flatten_paren nodes 256 (node_of place)
   unfolding node_of
