@@ -58,9 +58,6 @@ module _ {rs : List Range} {s t : List ℕ} (w : Wrote rs s t) (c : apart (0, 4)
     still_linked n h p = record { chain = λ x k. rw (head_same x (omega arith), from_same 0 x) (still_chained (head_of s x) (answered_from s 0 x) (from_within s 0 x (omega arith)) (p.chain x k)) }
 
 -- ---- clearing
-pub unheaded_none : (s : List ℕ) → Unheaded 0 s s
-unheaded_none s = record { wrote = wrote_none linking s; still = record { same = refl; used = refl }; gone = λ x h. absurd (omega arith) }
-
 pub unheaded_more : (s u t : List ℕ) (x : ℕ) → Long s → x < name_limit → Unheaded x s u → t ≡ set_word u (heads_at + 4 * x) 0 → Unheaded (x + 1) s t
 unfolding Outside linking head_of
 unheaded_more s u t x l h d et =
@@ -77,9 +74,6 @@ unheaded_more s u t x l h d et =
     gone y false q z =
         let m : y ≡ x = omega (arith, ltb-false y x q) in
         rw (m, et) (word_set_word_same u (heads_at + 4 * x) 0 (omega (arith, d.wrote.size)) (omega arith))
-
-pub unheaded_done : (s t : List ℕ) (x n : ℕ) → Unheaded x s t → x ≤ n → n ≤ x → Unheaded n s t
-unheaded_done s t x n d a b = let q : x ≡ n = omega arith in rw q at d
 
 -- ---- one expression
 -- that means no name, or none of the first n

@@ -56,6 +56,7 @@ pub fn place(store: &[u8], p: Standing, past: bool) -> u32
 {
     let mut low: u32 = 0;
     let mut high = entry_count(store);
+    // No `partition_point`: the run lies as words in the bytes of the store, which the hosts own, and is no slice.
     while low < high {
         let middle = low + (high - low) / 2;
         if stops(compare_at(store, middle, p), past) {

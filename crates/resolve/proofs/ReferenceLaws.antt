@@ -29,9 +29,6 @@ pub record Copying (es b₀ : List ℕ) (i : ℕ) (b : List ℕ) : Type 0 where
   pub rest : set_all b₀ 0 es ≡ set_all b (4 * i) (drop i es)
   pub size : length b ≡ length b₀
 
-pub copying_none : (es b : List ℕ) → Copying es b 0 b
-copying_none es b = record { rest = refl; size = refl }
-
 module _ (es b₀ : List ℕ) (i : ℕ) (b : List ℕ) (d : Copying es b₀ i b) (r : rust.Option rust_expr_id.ExprId) (told : expr_of r ≡ get_elem? es i) where
   pub copying_more : (e : ℕ) (c : List ℕ) → r ≡ rust.Some (record { 0 = e }) → c ≡ set_word b (4 * i) e → Copying es b₀ (i + 1) c
   unfolding set_all expr_of

@@ -22,21 +22,12 @@ use module::{ExprId, NameId, ScopeId, TextId};
 use texts::text_bytes;
 
 // The built-in name that a text is, where no definition hides it.
-<<<<<<< HEAD
-fn unhidden_builtin(found: Option<(ScopeId, NameId)>, sought: &[u8]) -> MaybeBuiltin
+fn unhidden_builtin(found: Option<(ScopeId, NameId)>, sought: &[u8]) -> Option<u32>
     ensures { builtin_of result ≡ unhidden (found_of found) (index_from 0 sought.now builtins) }
 {
     match found {
-        Some((_, _)) => MaybeBuiltin::Absent,
+        Some((_, _)) => None,
         None => lookup_global_builtin(sought),
-=======
-fn unhidden_builtin(found: Found, sought: &[u8]) -> Option<u32>
-    ensures { builtin_of result ≡ unhidden (found_of found) (index_from 0 sought.now builtins) }
-{
-    match found {
-        Found::In(_, _) => None,
-        None => lookup_global_builtin(sought),
->>>>>>> 038b64fc0a9e66a1c26aba2b579bd1481d1a2e79
     }
 }
 

@@ -5,7 +5,7 @@ use mathlib.Core.Option.{Option, none, some}
 use Prim.Native.Nat.{ℕ, ◌+◌, ◌≤◌, ◌<◌}
 use native.Mathlib.Omega.{arith}
 use lib.ListN.{length, take, get_or, length-append}
-use lib.Seq.{take_all, length-take-le}
+use lib.Seq.{length-take-le}
 use Rattle.spec.specs.Basics.{ExprId, NameId}
 use Rattle.spec.specs.Module.{Module}
 use Rattle.spec.specs.Scopes.{one_or_none, field_names, pat_fields}
@@ -80,6 +80,3 @@ module _ (names : Names) (e : ExprId) {s u : List ℕ} {n k i c : ℕ} (counted 
       let same : item_at_expr u e i ≡ item_at_expr s e i = ap (λ (is : List Item). get_or is i (child 0)) (items_walked x.wrote x.still e) in
       let q' : xs ≡ entered names (module_in s) (item_at_expr s e i ∷ []) = q ∙ (ap (λ (j : Item). entered names (module_in u) (j ∷ [])) same ∙ ap (λ (m : Module). entered names m (item_at_expr s e i ∷ [])) (module_walked x.wrote x.still)) in
       subst (λ (ys : List NameId). Enters n ys s r t) (sym (entered_more names (module_in s) s e i (omega (arith, h, counted)))) (enters_then x (subst (λ (ys : List NameId). Enters k ys u r t) q' y))
-
-  pub enters_end : c ≤ i → Enters n (entered names (module_in s) (items_at_expr s e)) s k u
-  enters_end h = subst (λ (is : List Item). Enters n (entered names (module_in s) is) s k u) (take_all i (items_at_expr s e) (omega (arith, h, counted))) x

@@ -1,5 +1,5 @@
 -- `listing::linking::clear_heads` meets its contract.
-use Rattle.listing.proofs.LinkLaws.{unheaded_none, unheaded_more, unheaded_done}
+use Rattle.listing.proofs.LinkLaws.{unheaded_more}
 use native.Mathlib.Omega.{arith}
 use Rattle.listing.proofs.linking.clear_heads.Goals as goal
 

@@ -1,5 +1,4 @@
 -- The loop of `listing::linking::clear_heads`.
-use Prim.Native.Nat.{◌-◌, ◌≤◌}
 use Rattle.listing.specs.Links.{Unheaded}
 use Rattle.listing.proofs.linking.clear_heads.Given as goal
 

@@ -1,6 +1,5 @@
 -- `listing::linking::link_all` meets its contract.
 use Rattle.listing.proofs.LinkLaws.{linking_none, linking_more, linking_done}
-use native.Mathlib.Omega.{arith}
 use Rattle.listing.proofs.linking.link_all.Goals as goal
 
 pub loop-e-init : goal.loop-e-init

@@ -1,5 +1,4 @@
 -- The loop of `listing::lists::list_all`.
-use Prim.Native.Nat.{◌-◌, ◌≤◌}
 use Rattle.listing.proofs.ListingLaws.{Listing}
 use Rattle.listing.proofs.lists.list_all.Given as goal
 

@@ -1,5 +1,5 @@
 -- `scopes::enters::enter_items` meets its contract.
-use Rattle.scopes.proofs.EnterLaws.{enters_start, enters_bound, enters_turn, enters_end}
+use Rattle.scopes.proofs.EnterLaws.{enters_start, enters_bound, enters_turn}
 use native.Mathlib.Omega.{arith}
 use Rattle.scopes.proofs.enters.enter_items.Goals as goal
 
