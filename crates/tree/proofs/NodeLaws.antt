@@ -44,6 +44,10 @@ below_more m n l (math.some k ∷ ks) h =
     let b = ltb-true k m (and_elim_left (ltb k m) (all_below m ks) h) in
     rw (lt-ltb k n (omega arith)) (below_more m n l ks (and_elim_right (ltb k m) (all_below m ks) h))
 
+pub below_head : (nodes k : ℕ) (ks : List (math.Option NodeId)) → all_below nodes (math.some k ∷ ks) ≡ true → k < nodes
+unfolding all_below
+below_head nodes k ks h = ltb-true k nodes (and_elim_left (ltb k nodes) (all_below nodes ks) h)
+
 -- ---- a node
 -- the first of some nodes, and where the others stand
 record First (s : List ℕ) (nodes i at : ℕ) (x : Node) (xs : List Node) (end : ℕ) : Type 0 where

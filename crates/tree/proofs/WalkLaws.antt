@@ -6,12 +6,12 @@ use mathlib.Core.Bool.{Bool, true, false}
 use mathlib.Core.List.{List, [], ◌∷◌}
 use mathlib.Core.Logic.{inl, inr}
 use mathlib.Core.Option as math
-use mathlib.Mathlib.Data.Bool.Basic.{and_elim_left, and_elim_right}
+use mathlib.Mathlib.Data.Bool.Basic.{and_elim_right}
 use Prim.Native.Nat.{ℕ, zero, suc, ◌+◌, ◌-◌, ◌<◌}
 use native.Mathlib.Omega.{arith}
 use lib.ListN.{length}
 use lib.Dec.{ltb}
-use borrow.Author.Tests.{eq-eqb, ne_eqb, ltb-true}
+use borrow.Author.Tests.{eq-eqb, ne_eqb}
 use Rattle.spec.specs.Basics.{NodeId}
 use Rattle.spec.specs.Kinds as Kinds
 use Rattle.spec.specs.Kinds.{kind_of, takes}
@@ -22,6 +22,7 @@ use Rattle.refusals.specs.Numbers.{number_of}
 use Rattle.refusals.specs.declared.refusal.Refusal.{Refusal}
 use Rattle.refusals.specs.declared.refusal.Refusal.TheVariants.{MisplacedKid}
 use Rattle.module.specs.SyntaxKinds.{number_of_syntax}
+use Rattle.tree.proofs.NodeLaws.{below_head}
 use Rattle.tree.specs.Slots.{slot_of}
 use Rattle.tree.specs.Places.{counted_of, listed_of, Fills, Skips, Opens}
 use Rattle.tree.specs.Nodes.{nodes_in, kids_in, Kids, Read, kid_of, After}
@@ -216,11 +217,7 @@ module _ (nodes : ℕ) (v : List ℕ) (kid : Option ℕ) (w : List ℕ) (a : Aft
   these = rw (← a.same) h
 
   pub low_kid : (k : ℕ) → kid ≡ Some k → k < nodes
-  unfolding all_below
-  low_kid k e = low k (rw e at these)
-    where
-      low : (k : ℕ) → all_below nodes (math.some k ∷ kids_in w) ≡ true → k < nodes
-      low k h = ltb-true k nodes (and_elim_left (ltb k nodes) (all_below nodes (kids_in w)) h)
+  low_kid k e = below_head nodes k (kids_in w) (rw e at these)
 
   pub low_rest : all_below nodes (kids_in w) ≡ true
   unfolding all_below
