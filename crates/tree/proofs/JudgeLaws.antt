@@ -1,12 +1,12 @@
 -- From accepted lines to a judged tree. Assumes nothing.
-use Rattle.std.specs.Prelude.{if◌then◌else◌}
+use Rattle.std.specs.Prelude.{Result, Ok, Err}
 use mathlib.Core.Path.{◌≡◌, refl, sym, ap, ap₂, ◌∙◌}
-use mathlib.Core.Bool.{Bool, true, false, ◌&&◌}
+use mathlib.Core.Bool.{◌&&◌}
 use mathlib.Core.List.{List}
 use Prim.Native.Nat.{ℕ, ◌+◌, ◌≤◌, ◌<◌}
 use native.Mathlib.Omega.{arith}
 use lib.ListN.{length}
-use lib.Dec.{eqb, leb}
+use lib.Dec.{leb}
 use borrow.Author.Tests.{eq-eqb, ne_eqb}
 use Rattle.spec.specs.Basics.{bytes}
 use Rattle.spec.specs.Sheet.{wrong_count, number, decimal, Judged, accepted, refused, read_sheet}
@@ -20,11 +20,11 @@ use Rattle.sheet.specs.declared.position.Position.{Position}
 use Rattle.sheet.specs.declared.sheets.SheetRead.{SheetRead}
 use Rattle.sheet.specs.declared.sheets.SheetRead.TheVariants.{Accepted, Refused}
 use Rattle.tree.specs.Nodes.{nodes_in, Stands}
-use Rattle.tree.specs.Walk.{Walks}
-use Rattle.tree.specs.Judge.{Nodes, tree_answer}
+use Rattle.tree.specs.Walk.{walked_of, Walks}
+use Rattle.tree.specs.Judge.{Nodes}
 use Rattle.tree.specs.declared.walk.Front.{Front}
-use Rattle.tree.specs.declared.walk.Walked.{Walked}
-use Rattle.tree.specs.declared.walk.Walked.TheVariants.{Met, Stopped}
+use Rattle.tree.specs.declared.walk.SheetRefused.{SheetRefused}
+use Rattle.refusals.specs.Numbers as refusals
 
 -- ---- the lines
 module _ (s : List ℕ) (r : SheetRead) (e : r ≡ answer s (read_sheet s)) where
@@ -72,24 +72,30 @@ module _ (s : List ℕ) (nodes : ℕ) (first : Position) (h : Nodes s nodes firs
   unfolding judge judge_tree
   judged_as = ap judge_tree h.right
 
-  pub tree_judged : (w : Walked) → Walks s (walk_to (nodes_in s) 255 0) w → tree_answer nodes first w ≡ answer s (judge s)
-  unfolding whole_tree answer
-  tree_judged (Stopped number place) k = sym (ap (answer s) (judged_as ∙ ap (whole_tree (nodes_in s)) (sym k.same)))
-  tree_judged (Met front) k = by_test (eqb (front.highest + 1) nodes) refl ∙ sym (ap (answer s) (judged_as ∙ ap (whole_tree (nodes_in s)) (sym k.same)))
-    where
-      by_test : (b : Bool) → eqb (front.highest + 1) nodes ≡ b
-          → (if eqb (front.highest + 1) nodes then Accepted nodes first else Refused 7 (front.highest + 1))
-          ≡ answer s (if eqb (front.highest + 1) (length (nodes_in s)) then accepted (nodes_in s) else refused 7 (front.highest + 1))
-      by_test true q = rw (← h.count, q) (ap₂ Accepted h.count h.start)
-      by_test false q = rw (← h.count, q) refl
+  tree_is : (w : Result Front SheetRefused) → Walks s (walk_to (nodes_in s) 255 0) w → whole_tree (nodes_in s) (walked_of w) ≡ judge s
+  tree_is w k = ap (whole_tree (nodes_in s)) k.same ∙ sym judged_as
 
--- ---- 7
-module _ (nodes : ℕ) (first : Position) (w : Walked) where
-  pub met_all : (front : Front) → w ≡ Met front → front.highest + 1 ≡ nodes → Accepted nodes first ≡ tree_answer nodes first w
-  met_all front e q = sym (ap (tree_answer nodes first) e ∙ ap (λ b. if b then Accepted nodes first else Refused 7 (front.highest + 1)) (eq-eqb (front.highest + 1) nodes q))
+  pub stopped_tree : (r : SheetRefused) → Walks s (walk_to (nodes_in s) 255 0) (Err r) → refused (refusals.number_of r.why) r.place ≡ judge s
+  unfolding whole_tree
+  stopped_tree r k = tree_is (Err r) k
 
-  pub met_few : (front : Front) → w ≡ Met front → (front.highest + 1 ≡ nodes → ⊥) → Refused 7 (front.highest + 1) ≡ tree_answer nodes first w
-  met_few front e q = sym (ap (tree_answer nodes first) e ∙ ap (λ b. if b then Accepted nodes first else Refused 7 (front.highest + 1)) (ne_eqb (front.highest + 1) nodes q))
+  module _ (front : Front) (k : Walks s (walk_to (nodes_in s) 255 0) (Ok front)) where
+    pub met_all : front.highest + 1 ≡ nodes → accepted (nodes_in s) ≡ judge s
+    unfolding whole_tree
+    met_all q = rw (eq-eqb (front.highest + 1) (length (nodes_in s)) (q ∙ h.count)) at (tree_is (Ok front) k)
 
-  pub stopped_as : (number place : ℕ) → w ≡ Stopped number place → Refused number place ≡ tree_answer nodes first w
-  stopped_as number place e = sym (ap (tree_answer nodes first) e)
+    -- 7: nodes are left
+    pub met_few : (front.highest + 1 ≡ nodes → ⊥) → refused 7 (front.highest + 1) ≡ judge s
+    unfolding whole_tree
+    met_few q = rw (ne_eqb (front.highest + 1) (length (nodes_in s)) (λ e. q (e ∙ sym h.count))) at (tree_is (Ok front) k)
+
+-- ---- both
+module _ (s : List ℕ) (nodes : ℕ) (first : Position) (h : Nodes s nodes first) where
+  pub all_accepted : accepted (nodes_in s) ≡ judge s → Accepted nodes first ≡ answer s (judge s)
+  unfolding answer
+  all_accepted k = ap₂ Accepted h.count h.start ∙ ap (answer s) k
+
+pub tree_refused : (s : List ℕ) (r : SheetRefused) (number : ℕ) → number ≡ refusals.number_of r.why → refused (refusals.number_of r.why) r.place ≡ judge s
+    → Refused number r.place ≡ answer s (judge s)
+unfolding answer
+tree_refused s r number e k = rw (e, ← k) refl
