@@ -1,5 +1,5 @@
 -- The first of a list of names that a text equals, as `position` says it, and as the definitions count. Assumes nothing.
-use Rattle.std.specs.Prelude as std
+use Rattle.std.specs.Prelude as rust
 use Rattle.std.specs.Prelude.{Some, None, map}
 use Rattle.std.specs.List.{AllWithin, HoldsAt}
 use Rattle.std.specs.Option.{MatchOption}
@@ -46,7 +46,7 @@ module _ (t : Text) where
       rw other (found_nowhere xs (suc k) (λ j d a b. n (suc j) d (omega arith) (omega arith)))
 
   -- of the names that there are
-  pub looked : (xs : List (Bor Text)) → map (λ name. name.now) xs ≡ builtins → (r : std.Option ℕ) → MatchOption r (AllWithin IsNot xs 0 (length xs)) (λ i. (i < length xs) × HoldsAt Is xs i × AllWithin IsNot xs 0 i) → Looked r t
+  pub looked : (xs : List (Bor Text)) → map (λ name. name.now) xs ≡ builtins → (r : rust.Option ℕ) → MatchOption r (AllWithin IsNot xs 0 (length xs)) (λ i. (i < length xs) × HoldsAt Is xs i × AllWithin IsNot xs 0 i) → Looked r t
   unfolding builtin_of
   looked xs says None h = record { is = sym (found_nowhere xs 0 h) ∙ ap (index_from 0 t) says; low = λ i e. cc }
   looked xs says (Some i) (l, h, n) =

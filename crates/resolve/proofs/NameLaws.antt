@@ -1,5 +1,4 @@
 -- An answer of the code is that of the definitions. Assumes nothing.
-use Rattle.std.specs.Prelude as std
 use Rattle.std.specs.Prelude.{Some, None}
 use mathlib.Core.Path.{◌≡◌, refl, sym, ap, ◌∙◌}
 use mathlib.Core.Bool.{Bool, true, false}
@@ -71,11 +70,11 @@ module _ (text_of : ℕ → Text) (scopes : List Scope) (t : Text) (ss : List �
   unfolding answer_in
   asked = ap (after_definitions scopes t ss) (sym found)
 
-  pub builtin_is : {r : std.Option ℕ} {i : ℕ} → r ≡ Some i → builtin_of r ≡ unhidden (found_of f) (index_from 0 t builtins) → answer_with (Builtin i) (withs_of scopes ss) ≡ answer_in text_of scopes t ss
+  pub builtin_is : {r : rust.Option ℕ} {i : ℕ} → r ≡ Some i → builtin_of r ≡ unhidden (found_of f) (index_from 0 t builtins) → answer_with (Builtin i) (withs_of scopes ss) ≡ answer_in text_of scopes t ss
   unfolding answer_with builtin_of
   builtin_is {r} {i} e h = sym (asked ∙ answered (found_of f) (some i) (sym h ∙ ap builtin_of e))
 
-  pub bound_is : {r : std.Option ℕ} (b : Answer) → r ≡ None → builtin_of r ≡ unhidden (found_of f) (index_from 0 t builtins) → answer_with b (withs_of scopes ss) ≡ bound_or (found_of f) (withs_of scopes ss) → answer_with b (withs_of scopes ss) ≡ answer_in text_of scopes t ss
+  pub bound_is : {r : rust.Option ℕ} (b : Answer) → r ≡ None → builtin_of r ≡ unhidden (found_of f) (index_from 0 t builtins) → answer_with b (withs_of scopes ss) ≡ bound_or (found_of f) (withs_of scopes ss) → answer_with b (withs_of scopes ss) ≡ answer_in text_of scopes t ss
   unfolding builtin_of
   bound_is {r} b e h q = q ∙ sym (asked ∙ answered (found_of f) none (sym h ∙ ap builtin_of e))
 
