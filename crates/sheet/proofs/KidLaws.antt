@@ -1,160 +1,113 @@
 -- Laws of lists of kids. Assumes nothing.
 use Rattle.std.specs.Prelude.{if◌then◌else◌}
+use Rattle.std.specs.Prelude as rust
+use Rattle.std.specs.Prelude.{position}
+use Rattle.std.specs.Option as rust_option
+use Rattle.std.specs.List.{position_or_len}
+use Rattle.std.specs.Borrow.{Bor}
+use Rattle.std.proofs.lemmas.List.Sums.{prefix_len-le-length}
 use mathlib.Core.Path.{◌≡◌, refl, sym, ap, ◌∙◌}
-use mathlib.Core.Bool.{Bool, true, false, ◌&&◌, and-true, and-false, and_assoc}
-use mathlib.Core.List.{List, [], ◌∷◌, ◌++◌, map, append-nil, append_assoc}
+use mathlib.Core.Bool.{Bool, true, false, ◌&&◌, cond, not, and-true, and-false, and_assoc}
+use mathlib.Core.List.{List, [], ◌∷◌, map}
 use mathlib.Core.Option
 use mathlib.Core.Option.{Option, none, some}
 use mathlib.Mathlib.Data.Bool.Basic.{and_elim_right}
-use Prim.Native.Nat.{ℕ, ◌+◌, ◌-◌, ◌≤◌, ◌<◌, min}
+use Prim.Native.Nat.{ℕ, suc, ◌+◌, ◌-◌, ◌≤◌, ◌<◌, min}
 use native.Mathlib.Omega.{arith}
 use native.Mathlib.Decide.{dec_lt}
-use lib.ListN.{length, get_or}
+use lib.ListN.{length, get_or, take, drop, length-drop, drop_of_length-le}
+use lib.Seq.{take_all, drop-drop}
 use lib.Dec.{eqb, ltb}
-use borrow.Author.Tests.{eq-eqb, ne_eqb, lt-ltb, le-ltb, ltb-true}
-use Rattle.words.specs.Runs.{run}
-use Rattle.words.proofs.RunLaws.{length_run, run_snoc, run_none}
+use lib.Pointwise.{pointwise}
+use borrow.Author.Tests.{eq-eqb, ne_eqb, lt-ltb, le-ltb, ltb-true, ltb-false, false-eqb}
 use Rattle.spec.specs.Basics.{Text, NodeId, maybe}
 use Rattle.spec.specs.Sheet.{kid, cut_before, cut_at_commas, all_kids, kid_list, all_below, decimal}
 use Rattle.sheet.specs.Decimals.{capped, got_decimal}
-use Rattle.sheet.specs.Verdicts.{verdict_of}
-use Rattle.sheet.specs.Kids.{parts_after, PartEnd, is_dash, short_kid, short_kids, got_kid, kids_from, StepInside, left, left_of, LeftInside, kids_of}
-use Rattle.sheet.specs.declared.decimals.Spelled.{Spelled}
-use Rattle.sheet.specs.declared.decimals.Spelled.TheVariants as spelled
-use Rattle.sheet.specs.declared.kids.Kid.{Kid}
-use Rattle.sheet.specs.declared.kids.Kid.TheVariants as one
-use Rattle.sheet.specs.declared.kids.KidStep.{KidStep}
-use Rattle.sheet.specs.declared.kids.KidStep.TheVariants as step
-use Rattle.sheet.specs.declared.kids.KidsLeft.{KidsLeft}
-use Rattle.sheet.specs.declared.kids.KidsLeft.TheVariants as to
-use Rattle.sheet.specs.declared.verdicts.Verdict.{Verdict}
-use Rattle.sheet.proofs.DecimalLaws.{span_cons, spelled_none}
+use Rattle.sheet.specs.Kids.{short_kid, short_kids, Rest, below, kids_of}
+use Rattle.sheet.proofs.DecimalLaws.{spelled_none}
 
--- ---- the first part: bytes before a text that is cut go on its first part
-abbrev joined : Text → List Text → List Text
-joined xs [] = xs ∷ []
-joined xs (p ∷ ps) = (xs ++ p) ∷ ps
+-- ---- the first part: up to the first comma, or the whole list
+abbrev pub is_comma : ℕ → Bool
+is_comma b = eqb b 44
 
-joined_none : (ps : List Text) → (ps ≡ [] → ⊥) → joined [] ps ≡ ps
-joined_none [] n = absurd (n refl)
-joined_none (p ∷ ps) n = refl
+abbrev pub part : Text → ℕ
+part v = position_or_len is_comma v
 
-cut_some : (v : Text) → cut_at_commas v ≡ [] → ⊥
-unfolding cut_at_commas cut_before
-cut_some [] e = let z : ◌≡◌ {A = ℕ} 0 1 = cc in omega arith
-cut_some (c ∷ v) e = go (eqb c 44) (cut_at_commas v) e
+pub part_is : (v : Text) → rust_option.unwrap_or (position is_comma v) (length v) ≡ part v
+part_is v = go (ltb (part v) (length v)) refl
   where
-    go : (t : Bool) (ps : List Text) → cut_before t c ps ≡ [] → ⊥
-    go true ps q = let z : ◌≡◌ {A = ℕ} 0 1 = cc in omega arith
-    go false [] q = let z : ◌≡◌ {A = ℕ} 0 1 = cc in omega arith
-    go false (p ∷ ps) q = let z : ◌≡◌ {A = ℕ} 0 1 = cc in omega arith
+    go : (t : Bool) → ltb (part v) (length v) ≡ t → rust_option.unwrap_or (cond t (rust.Some (part v)) rust.None) (length v) ≡ part v
+    go true e = refl
+    go false e = omega (arith, ltb-false (part v) (length v) e, prefix_len-le-length (λ x. not (is_comma x)) v)
 
-joined_snoc : (xs : Text) (c : ℕ) (ps : List Text) → joined xs (cut_before false c ps) ≡ joined (xs ++ (c ∷ [])) ps
-unfolding cut_before
-joined_snoc xs c [] = refl
-joined_snoc xs c (p ∷ ps) = ap (λ (x : Text). x ∷ ps) (sym (append_assoc xs (c ∷ []) p))
+cut_more : (v : Text) → part v < length v → cut_at_commas v ≡ take (part v) v ∷ cut_at_commas (drop (part v + 1) v)
+unfolding cut_at_commas cut_before
+cut_more [] h = absurd (omega (arith, h))
+cut_more (c ∷ v) h = go (eqb c 44) (cut_more v) h
+  where
+    go : (t : Bool) → (part v < length v → cut_at_commas v ≡ take (part v) v ∷ cut_at_commas (drop (part v + 1) v)) → cond (not t) (1 + part v) 0 < length (c ∷ v)
+        → cut_before t c (cut_at_commas v) ≡ take (cond (not t) (1 + part v) 0) (c ∷ v) ∷ cut_at_commas (drop (cond (not t) (1 + part v) 0 + 1) (c ∷ v))
+    go true f k = refl
+    go false f k =
+        let a : 1 + part v ≡ suc (part v) = omega arith in
+        let b : 1 + part v + 1 ≡ suc (part v + 1) = omega arith in
+        rw (f (omega (arith, k)), b, a)
 
-pub record Cut (s : List ℕ) (start end i : ℕ) : Type 0 where
-  pub low : start ≤ i
-  pub high : i ≤ end
-  pub same : cut_at_commas (run s start (end - start)) ≡ joined (run s start (i - start)) (cut_at_commas (run s i (end - i)))
-
-pub cut_start : (s : List ℕ) (start end : ℕ) → start ≤ end → Cut s start end start
-cut_start s start end h = record {
-  low = omega arith;
-  high = h;
-  same = rw (run_none s start start start (omega arith)) (sym (joined_none (cut_at_commas (run s start (end - start))) (cut_some (run s start (end - start)))));
-}
-
-module _ (s : List ℕ) (start end i : ℕ) (h : end ≤ length s) (r : Cut s start end i) where
-  pub cut_comma : i < end → get_or s i 0 ≡ 44 → PartEnd s start end i
-  unfolding cut_at_commas cut_before parts_after
-  cut_comma k e = record {
-    low = r.low;
-    high = r.high;
-    same = r.same ∙ rw (span_cons s i end k h, eq-eqb (get_or s i 0) 44 e, lt-ltb i end k) (ap (λ (x : Text). x ∷ cut_at_commas (run s (i + 1) (end - (i + 1)))) (append-nil (run s start (i - start))));
-  }
-
-  pub cut_more : i < end → (get_or s i 0 ≡ 44 → ⊥) → Cut s start end (i + 1)
-  unfolding cut_at_commas
-  cut_more k n =
-      let a : i + 1 - start ≡ i - start + 1 = omega (arith, r.low) in
-      let p : start + (i - start) ≡ i = omega (arith, r.low) in
-      let q : start + (i - start) < length s = omega arith in
-      record {
-        low = omega (arith, r.low);
-        high = omega arith;
-        same =
-            r.same ∙ rw (span_cons s i end k h, ne_eqb (get_or s i 0) 44 n, a, run_snoc s start (i - start) q, p)
-            (joined_snoc (run s start (i - start)) (get_or s i 0) (cut_at_commas (run s (i + 1) (end - (i + 1)))));
-      }
-
-  pub cut_end : end ≤ i → PartEnd s start end i
-  unfolding cut_at_commas parts_after
-  cut_end k = record {
-    low = r.low;
-    high = r.high;
-    same = r.same ∙ rw (run_none s i end i k, le-ltb i end k) (ap (λ (x : Text). x ∷ []) (append-nil (run s start (i - start))));
-  }
+cut_last : (v : Text) → length v ≤ part v → cut_at_commas v ≡ v ∷ []
+unfolding cut_at_commas cut_before
+cut_last [] h = refl
+cut_last (c ∷ v) h = go (eqb c 44) (cut_last v) h
+  where
+    go : (t : Bool) → (length v ≤ part v → cut_at_commas v ≡ v ∷ []) → length (c ∷ v) ≤ cond (not t) (1 + part v) 0 → cut_before t c (cut_at_commas v) ≡ (c ∷ v) ∷ []
+    go true f k = absurd (omega (arith, k))
+    go false f k = rw (f (omega (arith, k)))
 
 -- ---- one kid
-dash_long : (v : Text) → (length v ≡ 1 → ⊥) → false ≡ is_dash v
-unfolding is_dash
-dash_long [] n = refl
-dash_long (c ∷ []) n = absurd (n refl)
-dash_long (c ∷ d ∷ v) n = refl
+pub kid_dash : (v : Text) → true ≡ pointwise eqb v (45 ∷ []) → some none ≡ Option.map short_kid (kid v)
+unfolding kid
+kid_dash [] e = let z : ◌≡◌ {A = ℕ} 0 1 = cc in absurd (omega arith)
+kid_dash (c ∷ []) e = go (eqb c 45) e
+  where
+    go : (t : Bool) → true ≡ (t && true) → some none ≡ Option.map short_kid (if t then some none else Option.map some (decimal (c ∷ [])))
+    go true q = refl
+    go false q = let z : ◌≡◌ {A = ℕ} 0 1 = cc in absurd (omega arith)
+kid_dash (c ∷ d ∷ v) e = go (eqb c 45) e
+  where
+    go : (t : Bool) → true ≡ (t && false) → some none ≡ Option.map short_kid (Option.map some (decimal (c ∷ d ∷ v)))
+    go true q = let z : ◌≡◌ {A = ℕ} 0 1 = cc in absurd (omega arith)
+    go false q = let z : ◌≡◌ {A = ℕ} 0 1 = cc in absurd (omega arith)
 
-dash_one : (c : ℕ) (v : Text) → length (c ∷ v) ≡ 1 → eqb c 45 ≡ is_dash (c ∷ v)
-unfolding is_dash
-dash_one c [] e = refl
-dash_one c (d ∷ v) e = absurd (omega (arith, e))
+counted : (v : Text) → false ≡ pointwise eqb v (45 ∷ []) → kid v ≡ Option.map some (decimal v)
+unfolding kid decimal
+counted [] n = refl
+counted (c ∷ []) n = go (eqb c 45) n
+  where
+    go : (t : Bool) → false ≡ (t && true) → (if t then some none else Option.map some (decimal (c ∷ []))) ≡ Option.map some (decimal (c ∷ []))
+    go true q = let z : ◌≡◌ {A = ℕ} 0 1 = cc in absurd (omega arith)
+    go false q = refl
+counted (c ∷ d ∷ v) n = refl
 
-module _ (s : List ℕ) (start end : ℕ) (o : start ≤ end) (h : end ≤ length s) where
-  pub not_dash : (end - start ≡ 1 → ⊥) → false ≡ is_dash (run s start (end - start))
-  not_dash n = let l = length_run s start (end - start) (omega arith) in dash_long (run s start (end - start)) (λ e. n (sym l ∙ e))
+module _ (v : Text) (n : false ≡ pointwise eqb v (45 ∷ [])) (x : rust.Option ℕ) (d : got_decimal x ≡ Option.map capped (decimal v)) where
+  pub kid_malformed : x ≡ rust.None → none ≡ Option.map short_kid (kid v)
+  kid_malformed p =
+      let f : none ≡ Option.map capped (decimal v) = rw p at d in
+      let g = spelled_none (decimal v) f in
+      sym (rw (counted v n, g))
 
-  pub dash_is : end - start ≡ 1 → eqb (get_or s start 0) 45 ≡ is_dash (run s start (end - start))
-  dash_is e =
-      let l = length_run s start (end - start) (omega arith) in
-      let p = span_cons s start end (omega arith) h in
-      rw p (dash_one (get_or s start 0) (run s (start + 1) (end - (start + 1))) (sym (ap length p) ∙ l ∙ e))
+  pub kid_number : (k y : ℕ) → x ≡ rust.Some k → y ≡ min k 4294967295 → some (some y) ≡ Option.map short_kid (kid v)
+  kid_number k y p z =
+      let f : some k ≡ Option.map capped (decimal v) = rw p at d in
+      rw (counted v n) (go (decimal v) f)
+    where
+      go : (o : Option ℕ) → some k ≡ Option.map capped o → some (some y) ≡ Option.map short_kid (Option.map some o)
+      go none f = cc
+      go (some w) f = let u : k ≡ capped w = cc in ap (λ (m : ℕ). some (some m)) (omega arith)
 
-kid_is : (v : Text) → kid v ≡ (if is_dash v then some none else Option.map some (decimal v))
-unfolding kid is_dash decimal
-kid_is [] = refl
-kid_is (c ∷ []) = refl
-kid_is (c ∷ d ∷ v) = refl
-
-module _ (v : Text) (t : Bool) (e : t ≡ is_dash v) where
-  pub kid_absent : t ≡ true → some none ≡ Option.map short_kid (kid v)
-  kid_absent q = let f : is_dash v ≡ true = sym e ∙ q in sym (ap (Option.map short_kid) (kid_is v) ∙ rw f)
-
-  module _ (q : t ≡ false) (n : Spelled) (d : got_decimal n ≡ Option.map capped (decimal v)) where
-    counted : kid v ≡ Option.map some (decimal v)
-    counted = let f : is_dash v ≡ false = sym e ∙ q in kid_is v ∙ rw f
-
-    pub kid_malformed : n ≡ spelled.Malformed → none ≡ Option.map short_kid (kid v)
-    kid_malformed p =
-        let f : none ≡ Option.map capped (decimal v) = rw p at d in
-        let g = spelled_none (decimal v) f in
-        sym (rw (counted, g))
-
-    pub kid_number : (x y : ℕ) → n ≡ spelled.Number x → y ≡ min x 4294967295 → some (some y) ≡ Option.map short_kid (kid v)
-    kid_number x y p z =
-        let f : some x ≡ Option.map capped (decimal v) = rw p at d in
-        rw (counted) (go (decimal v) f)
-      where
-        go : (o : Option ℕ) → some x ≡ Option.map capped o → some (some y) ≡ Option.map short_kid (Option.map some o)
-        go none f = cc
-        go (some w) f = let u : x ≡ capped w = cc in ap (λ (m : ℕ). some (some m)) (omega arith)
-
--- ---- the next kid of a list
-list_some : (c : ℕ) (v : Text) → kid_list (c ∷ v) ≡ all_kids (cut_at_commas (c ∷ v))
+-- ---- the first kid of a list
+list_some : (v : Text) → 0 < length v → kid_list v ≡ all_kids (cut_at_commas v)
 unfolding kid_list
-list_some c v = refl
-
-pub list_parts : (s : List ℕ) (at end : ℕ) → at < end → end ≤ length s → kid_list (run s at (end - at)) ≡ all_kids (cut_at_commas (run s at (end - at)))
-list_parts s at end k h = let p = span_cons s at end k h in rw p (list_some (get_or s at 0) (run s (at + 1) (end - (at + 1))))
+list_some [] h = absurd (omega (arith, h))
+list_some (c ∷ v) h = refl
 
 shortened : (o : Option (Option NodeId)) (x : Option (List (Option NodeId)))
     → Option.map (map short_kid) (maybe o none (λ k. Option.map (λ ks. k ∷ ks) x))
@@ -163,54 +116,83 @@ shortened none x = refl
 shortened (some k) none = refl
 shortened (some k) (some ks) = refl
 
-pub step_none : (s : List ℕ) (at end : ℕ) → at ≡ end → (some [] ≡ short_kids (run s at (end - at))) × Unit {0}
+pub step_none : (v : Text) → length v ≡ 0 → some [] ≡ short_kids v
 unfolding short_kids kid_list
-step_none s at end e = (rw (run_none s at end at (omega arith)), tt)
+step_none [] h = refl
+step_none (c ∷ v) h = absurd (omega (arith, h))
 
-module _ (s : List ℕ) (at end part : ℕ) (k : at < end) (h : end ≤ length s) (r : PartEnd s at end part) where
-  parts : kid_list (run s at (end - at)) ≡ maybe (kid (run s at (part - at))) none (λ k. Option.map (λ ks. k ∷ ks) (all_kids (parts_after s part end)))
-  unfolding all_kids
-  parts = list_parts s at end k h ∙ ap all_kids r.same
-
-  pub step_comma : end - part ≡ 1 → (none ≡ short_kids (run s at (end - at))) × Unit {0}
-  unfolding short_kids parts_after cut_at_commas all_kids kid
+module _ (v : Text) (k : 0 < length v) where
+  -- the list ends with a comma
+  pub step_comma : length (drop (part v) v) ≡ 1 → none ≡ short_kids v
+  unfolding short_kids all_kids kid cut_at_commas
   step_comma e =
-      let l : part < end = omega arith in
-      (sym (rw (parts, lt-ltb part end l, run_none s (part + 1) end (part + 1) (omega arith)) (go (kid (run s at (part - at))))), tt)
+      let l : part v + 1 ≡ length v = omega (arith, e, length-drop (part v) v) in
+      sym (rw (list_some v k, cut_more v (omega arith), drop_of_length-le v {i = part v + 1} (omega arith)) (go (kid (take (part v) v))))
     where
       go : (o : Option (Option NodeId)) → Option.map (map short_kid) (maybe o none (λ k. Option.map (λ ks. k ∷ ks) none)) ≡ none
       go none = refl
       go (some k) = refl
 
-  module _ (n : end - part ≡ 1 → ⊥) (next : ℕ) (z : next ≡ min (part + 1) end) where
-    rest : all_kids (parts_after s part end) ≡ kid_list (run s next (end - next))
-    unfolding parts_after all_kids kid_list
-    rest = go (dec_lt part end)
+  module _ (n : length (drop (part v) v) ≡ 1 → ⊥) (rest : Text) (z : rest ≡ drop (part v + 1) v) where
+    stepped : short_kids v ≡ maybe (Option.map short_kid (kid (take (part v) v))) none (λ k. Option.map (λ ks. k ∷ ks) (short_kids rest))
+    unfolding short_kids all_kids kid_list
+    stepped = ap (Option.map (map short_kid)) (go (dec_lt (part v) (length v))) ∙ shortened (kid (take (part v) v)) (kid_list rest)
       where
-        go : Dec (part < end) → all_kids (parts_after s part end) ≡ kid_list (run s next (end - next))
+        go : Dec (part v < length v) → kid_list v ≡ maybe (kid (take (part v) v)) none (λ k. Option.map (λ ks. k ∷ ks) (kid_list rest))
         go (yes l) =
-            let y : next ≡ part + 1 = omega (arith, r.high) in
-            rw (y, lt-ltb part end l) (sym (list_parts s (part + 1) end (omega (arith, n)) h))
+            let more : 0 < length rest = omega (arith, ap length z, length-drop (part v + 1) v, length-drop (part v) v, n) in
+            rw (list_some v k, cut_more v l, ← z, list_some rest more)
         go (no l) =
-            let y : next ≡ end = omega (arith, r.high) in
-            rw (y, le-ltb part end (omega (arith, l)), run_none s end end end (omega arith))
+            let whole : length v ≤ part v = omega (arith, l) in
+            let none_left : rest ≡ [] = z ∙ drop_of_length-le v {i = part v + 1} (omega arith) in
+            rw (list_some v k, cut_last v whole, none_left, take_all (part v) v whole)
 
-    stepped : short_kids (run s at (end - at)) ≡ maybe (Option.map short_kid (kid (run s at (part - at)))) none (λ k. Option.map (λ ks. k ∷ ks) (short_kids (run s next (end - next))))
-    unfolding short_kids
-    stepped = rw (parts, rest) (shortened (kid (run s at (part - at))) (kid_list (run s next (end - next))))
+    pub step_malformed : none ≡ Option.map short_kid (kid (take (part v) v)) → none ≡ short_kids v
+    step_malformed g = sym (stepped ∙ rw (← g))
 
-    onward : (at < next) × (next ≤ end)
-    onward = (omega (arith, r.low, r.high), omega arith)
+    pub step_kid : (x : Option NodeId) → some x ≡ Option.map short_kid (kid (take (part v) v)) → Option.map (λ ks. x ∷ ks) (short_kids rest) ≡ short_kids v
+    step_kid x g = sym (stepped ∙ rw (← g))
 
-    module _ (o : Kid) (g : got_kid o ≡ Option.map short_kid (kid (run s at (part - at)))) where
-      pub step_malformed : o ≡ one.Malformed → (none ≡ short_kids (run s at (end - at))) × Unit {0}
-      step_malformed p = let f : none ≡ Option.map short_kid (kid (run s at (part - at))) = rw p at g in (sym (stepped ∙ rw (← f)), tt)
+pub part_inside : (v : Text) → part v ≤ length v
+part_inside v = prefix_len-le-length (λ x. not (is_comma x)) v
 
-      pub step_absent : o ≡ one.Absent → (kids_from s end (step.Absent next) ≡ short_kids (run s at (end - at))) × ((at < next) × (next ≤ end))
-      step_absent p = let f : some none ≡ Option.map short_kid (kid (run s at (part - at))) = rw p at g in (sym (stepped ∙ rw (← f)), onward)
+-- the two halves of a list, cut where its first part ends
+module _ (v front from : Text) (p : ℕ) (e : p ≡ part v) (f : front ≡ take p v) (b : from ≡ drop p v) (k : false ≡ eqb (length v) 0) where
+  some_there : 0 < length v
+  some_there = let n : length v ≡ 0 → ⊥ = false-eqb (length v) 0 k in omega arith
 
-      pub step_number : (x : ℕ) → o ≡ one.Number x → (kids_from s end (step.Number x next) ≡ short_kids (run s at (end - at))) × ((at < next) × (next ≤ end))
-      step_number x p = let f : some (some x) ≡ Option.map short_kid (kid (run s at (part - at))) = rw p at g in (sym (stepped ∙ rw (← f)), onward)
+  from_is : from ≡ drop (part v) v
+  from_is = b ∙ ap (λ (n : ℕ). drop n v) e
+
+  front_is : take (part v) v ≡ front
+  front_is = sym (f ∙ ap (λ (n : ℕ). take n v) e)
+
+  pub at_comma : length from ≡ 1 → none ≡ short_kids v
+  at_comma h = step_comma v some_there (sym (ap length from_is) ∙ h)
+
+  module _ (rest : Text) (a : (length from ≡ 1 → ⊥) × (rest ≡ drop 1 from)) where
+    after_it : rest ≡ drop (part v + 1) v
+    after_it = a.1 ∙ ap (drop 1) from_is ∙ drop-drop 1 (part v) v
+
+    not_one : length (drop (part v) v) ≡ 1 → ⊥
+    not_one h = a.0 (ap length from_is ∙ h)
+
+    pub no_kid : none ≡ Option.map short_kid (kid front) → none ≡ short_kids v
+    no_kid g = step_malformed v some_there not_one rest after_it (rw front_is g)
+
+    pub one_kid : (x : Option NodeId) → some x ≡ Option.map short_kid (kid front) → Option.map (λ ks. x ∷ ks) (short_kids rest) ≡ short_kids v
+    one_kid x g = step_kid v some_there not_one rest after_it x (rw front_is g)
+
+    pub rest_left : Rest v rest
+    rest_left =
+        let size : length rest ≡ length v - (part v + 1) = ap length after_it ∙ length-drop (part v + 1) v in
+        record { less = omega (arith, size, some_there); same = go size (dec_lt (part v) (length v)) }
+      where
+        go : length rest ≡ length v - (part v + 1) → Dec (part v < length v) → rest ≡ drop (length v - length rest) v
+        go size (yes l) = let n : length v - length rest ≡ part v + 1 = omega arith in rw n after_it
+        go size (no l) =
+            let n : length v - length rest ≡ length v = omega (arith, l) in
+            rw n (after_it ∙ drop_of_length-le v {i = part v + 1} (omega (arith, l)) ∙ sym (drop_of_length-le v {i = length v} (omega arith)))
 
 -- ---- all kids below a limit
 below_short : (nodes : ℕ) → nodes ≤ 4294967295 → (ks : List (Option NodeId)) → all_below nodes (map short_kid ks) ≡ all_below nodes ks
@@ -223,92 +205,74 @@ below_short nodes l (some k ∷ ks) = go (below_short nodes l ks) (dec_lt k node
     go e (yes h) = let i : min k 4294967295 < nodes = omega arith in rw (lt-ltb k nodes h, lt-ltb (min k 4294967295) nodes i) e
     go e (no h) = let i : nodes ≤ min k 4294967295 = omega (arith, h) in rw (le-ltb k nodes (omega (arith, h)), le-ltb (min k 4294967295) nodes i)
 
-left_short : (s : List ℕ) (at end nodes : ℕ) (low : Bool) → nodes ≤ 4294967295
-    → left s at end nodes low ≡ Option.map (λ b. low && b) (Option.map (all_below nodes) (short_kids (run s at (end - at))))
-unfolding left short_kids
-left_short s at end nodes low l = go (kid_list (run s at (end - at)))
+-- ---- the loop: whether all are below, of a list that is left, if all before were
+abbrev left : Text → ℕ → Bool → Option Bool
+left v nodes low = Option.map (λ b. low && b) (Option.map (all_below nodes) (kid_list v))
+
+left_short : (v : Text) (nodes : ℕ) (low : Bool) → nodes ≤ 4294967295 → left v nodes low ≡ Option.map (λ b. low && b) (Option.map (all_below nodes) (short_kids v))
+unfolding short_kids
+left_short v nodes low l = go (kid_list v)
   where
     go : (o : Option (List (Option NodeId))) → Option.map (λ b. low && b) (Option.map (all_below nodes) o)
         ≡ Option.map (λ b. low && b) (Option.map (all_below nodes) (Option.map (map short_kid) o))
     go none = refl
     go (some ks) = ap (λ (b : Bool). some (low && b)) (sym (below_short nodes l ks))
 
-module _ (s : List ℕ) (at end nodes : ℕ) (low : Bool) (l : nodes ≤ 4294967295) (r : KidStep) (e : kids_from s end r ≡ short_kids (run s at (end - at))) (i : StepInside r at end) where
-  pub left_malformed : r ≡ step.Malformed → (none ≡ left s at end nodes low) × Unit {0}
-  left_malformed q = let f : none ≡ short_kids (run s at (end - at)) = rw q at e in (sym (left_short s at end nodes low l ∙ rw (← f)), tt)
+pub record Judging (kids : Text) (nodes : ℕ) (low : Bool) (v : Text) : Type 0 where
+  pub same : left v nodes low ≡ Option.map (all_below nodes) (kid_list kids)
 
-  pub left_end : r ≡ step.End → (some low ≡ left s at end nodes low) × Unit {0}
-  unfolding all_below
-  left_end q = let f : some [] ≡ short_kids (run s at (end - at)) = rw q at e in (sym (left_short s at end nodes low l ∙ rw (← f) (ap some (and-true low))), tt)
-
-  module _ (next : ℕ) where
-    pub left_absent : r ≡ step.Absent next → (left s next end nodes low ≡ left s at end nodes low) × ((at < next) × (next ≤ end))
-    unfolding all_below
-    left_absent q =
-        let f : Option.map (λ ks. none ∷ ks) (short_kids (run s next (end - next))) ≡ short_kids (run s at (end - at)) = rw q at e in
-        let j : (at < next) × (next ≤ end) = rw q at i in
-        (left_short s next end nodes low l ∙ go (short_kids (run s next (end - next))) ∙ sym (left_short s at end nodes low l ∙ rw (← f)), j)
-      where
-        unfold_below : (ks : List (Option NodeId)) → all_below nodes ks ≡ all_below nodes (none ∷ ks)
-        unfold_below ks = refl
-
-        go : (o : Option (List (Option NodeId))) → Option.map (λ b. low && b) (Option.map (all_below nodes) o)
-            ≡ Option.map (λ b. low && b) (Option.map (all_below nodes) (Option.map (λ ks. none ∷ ks) o))
-        go none = refl
-        go (some ks) = ap (λ (b : Bool). some (low && b)) (unfold_below ks)
-
-    pub left_number : (x : ℕ) → r ≡ step.Number x next → (still : Bool) → still ≡ (low && ltb x nodes) → (left s next end nodes still ≡ left s at end nodes low) × ((at < next) × (next ≤ end))
-    unfolding all_below
-    left_number x q still w =
-        let f : Option.map (λ ks. some x ∷ ks) (short_kids (run s next (end - next))) ≡ short_kids (run s at (end - at)) = rw q at e in
-        let j : (at < next) × (next ≤ end) = rw q at i in
-        (left_short s next end nodes still l ∙ ap (λ (x : Bool). Option.map (λ b. x && b) (Option.map (all_below nodes) (short_kids (run s next (end - next))))) w ∙ go (short_kids (run s next (end - next))) ∙ sym (left_short s at end nodes low l ∙ rw (← f)), j)
-      where
-        go : (o : Option (List (Option NodeId))) → Option.map (λ b. (low && ltb x nodes) && b) (Option.map (all_below nodes) o)
-            ≡ Option.map (λ b. low && b) (Option.map (all_below nodes) (Option.map (λ ks. some x ∷ ks) o))
-        go none = refl
-        go (some ks) = ap some (and_assoc low (ltb x nodes) (all_below nodes ks))
-
-pub still_low : (low : Bool) (x nodes : ℕ) → x < nodes → low ≡ (low && ltb x nodes)
-still_low low x nodes h = rw (lt-ltb x nodes h) (sym (and-true low))
-
-pub still_not : (low : Bool) (x nodes : ℕ) → nodes ≤ x → false ≡ (low && ltb x nodes)
-still_not low x nodes h = rw (le-ltb x nodes h) (sym (and-false low))
-
--- ---- the loop
-pub record Judging (s : List ℕ) (start end nodes at : ℕ) (low : Bool) : Type 0 where
-  pub inside : at ≤ end
-  pub same : left s at end nodes low ≡ Option.map (all_below nodes) (kid_list (run s start (end - start)))
-
-pub judging_start : (s : List ℕ) (start end nodes : ℕ) → start ≤ end → Judging s start end nodes start true
-unfolding left
-judging_start s start end nodes h = record { inside = h; same = go (Option.map (all_below nodes) (kid_list (run s start (end - start)))) }
+pub judging_start : (kids : Text) (nodes : ℕ) → Judging kids nodes true kids
+judging_start kids nodes = record { same = go (Option.map (all_below nodes) (kid_list kids)) }
   where
     go : (o : Option Bool) → Option.map (λ b. true && b) o ≡ o
     go none = refl
     go (some b) = refl
 
-module _ (s : List ℕ) (start end nodes at : ℕ) (low : Bool) (j : Judging s start end nodes at low) (r : KidsLeft) (e : left_of s end nodes r ≡ left s at end nodes low) where
-  pub judging_told : (v : Verdict) → r ≡ to.Told v → verdict_of v ≡ Option.map (all_below nodes) (kid_list (run s start (end - start)))
-  judging_told v q = rw q at e ∙ j.same
+module _ {kids : Text} {nodes : ℕ} {low : Bool} {v : Text} (j : Judging kids nodes low v) (l : nodes ≤ 4294967295) where
+  pub judging_malformed : none ≡ short_kids v → none ≡ Option.map (all_below nodes) (kid_list kids)
+  judging_malformed f = sym (sym j.same ∙ left_short v nodes low l ∙ rw (← f))
 
-  module _ (i : LeftInside r at end) (next : ℕ) (still : Bool) (q : r ≡ to.More next still) where
-    pub judging_more : Judging s start end nodes next still
-    judging_more = let k : (at < next) × (next ≤ end) = rw q at i in record { inside = k.1; same = rw q at e ∙ j.same }
+  pub judging_end : some [] ≡ short_kids v → some low ≡ Option.map (all_below nodes) (kid_list kids)
+  unfolding all_below
+  judging_end f = sym (sym j.same ∙ left_short v nodes low l ∙ rw (← f) (ap some (and-true low)))
 
-    pub judging_less : (at < next) × (next ≤ end)
-    judging_less = rw q at i
+  pub judging_more : (rest : Text) (x : Option NodeId) → Option.map (λ ks. x ∷ ks) (short_kids rest) ≡ short_kids v → (still : Bool) → still ≡ (low && below x nodes) → Judging kids nodes still rest
+  unfolding all_below
+  judging_more rest x f still w =
+      record {
+        same =
+            left_short rest nodes still l ∙ ap (λ (b : Bool). Option.map (λ c. b && c) (Option.map (all_below nodes) (short_kids rest))) w ∙ go x (short_kids rest)
+            ∙ sym (left_short v nodes low l ∙ rw (← f)) ∙ j.same;
+      }
+    where
+      go : (x : Option NodeId) (o : Option (List (Option NodeId))) → Option.map (λ b. (low && below x nodes) && b) (Option.map (all_below nodes) o)
+          ≡ Option.map (λ b. low && b) (Option.map (all_below nodes) (Option.map (λ ks. x ∷ ks) o))
+      go none none = refl
+      go none (some ks) = ap (λ (b : Bool). some (b && all_below nodes ks)) (and-true low)
+      go (some x) none = refl
+      go (some x) (some ks) = ap some (and_assoc low (ltb x nodes) (all_below nodes ks))
+
+  pub judging_low : (rest : Text) (x : Option NodeId) → Option.map (λ ks. x ∷ ks) (short_kids rest) ≡ short_kids v → true ≡ below x nodes → Judging kids nodes low rest
+  judging_low rest x f w = judging_more rest x f low (rw (← w) (sym (and-true low)))
+
+  pub judging_high : (rest : Text) (x : Option NodeId) → Option.map (λ ks. x ∷ ks) (short_kids rest) ≡ short_kids v → false ≡ below x nodes → Judging kids nodes false rest
+  judging_high rest x f w = judging_more rest x f false (rw (← w) (sym (and-false low)))
 
 -- ---- the kids that a judged list stands for
 pub kids_agree : (v : Text) (ks : List (Option NodeId)) → kid_list v ≡ some ks → ks ≡ kids_of v
 kids_agree v ks e = rw e
 
--- ---- going through a list that was judged right, kid by kid: a kid, and the rest of the list from the next place on
-pub record Before (s : List ℕ) (next end nodes : ℕ) (k : Option NodeId) (ks : List (Option NodeId)) : Type 0 where
-  pub rest : List (Option NodeId)
-  pub these : ks ≡ k ∷ rest
-  pub listed : kid_list (run s next (end - next)) ≡ some rest
-  pub below : all_below nodes rest ≡ true
+-- ---- going through a list that was judged right, kid by kid: a kid, and those of the list after it
+pub record Before (rest : Text) (nodes : ℕ) (k : Option NodeId) (ks : List (Option NodeId)) : Type 0 where
+  pub others : List (Option NodeId)
+  pub these : ks ≡ k ∷ others
+  pub listed : kid_list rest ≡ some others
+  pub below : all_below nodes others ≡ true
+
+under : (nodes : ℕ) (x : Option NodeId) (js : List (Option NodeId)) → all_below nodes (x ∷ js) ≡ true → all_below nodes js ≡ true
+unfolding all_below
+under nodes none js h = h
+under nodes (some x) js h = and_elim_right (ltb x nodes) (all_below nodes js) h
 
 short_same : (nodes : ℕ) → nodes ≤ 4294967295 → (ks : List (Option NodeId)) → all_below nodes ks ≡ true → map short_kid ks ≡ ks
 unfolding all_below
@@ -323,35 +287,25 @@ short_same nodes l (some k ∷ ks) b = go (short_same nodes l ks) (ltb k nodes) 
         rw (m, f q)
     go f false e q = cc
 
-module _ (s : List ℕ) (at end nodes : ℕ) (l : nodes ≤ 4294967295) (ks : List (Option NodeId)) (f : kid_list (run s at (end - at)) ≡ some ks) (b : all_below nodes ks ≡ true)
-    (r : KidStep) (e : kids_from s end r ≡ short_kids (run s at (end - at))) where
-  walked : kids_from s end r ≡ some ks
+module _ (v : Text) (nodes : ℕ) (l : nodes ≤ 4294967295) (ks : List (Option NodeId)) (f : kid_list v ≡ some ks) (b : all_below nodes ks ≡ true) where
+  walked : short_kids v ≡ some ks
   unfolding short_kids
-  walked = e ∙ rw f (ap some (short_same nodes l ks b))
+  walked = rw f (ap some (short_same nodes l ks b))
 
-  pub walk_end : r ≡ step.End → ks ≡ []
-  walk_end q = let w : some [] ≡ some ks = rw q at walked in cc
+  pub walk_end : some [] ≡ short_kids v → ks ≡ []
+  walk_end q = let w : some [] ≡ some ks = q ∙ walked in cc
 
-  pub walk_malformed : r ≡ step.Malformed → ⊥
-  walk_malformed q = let w : none ≡ some ks = rw q at walked in let z : ◌≡◌ {A = ℕ} 0 1 = cc in omega arith
+  pub walk_malformed : none ≡ short_kids v → ⊥
+  walk_malformed q = let w : none ≡ some ks = q ∙ walked in let z : ◌≡◌ {A = ℕ} 0 1 = cc in omega arith
 
   -- whatever the kid is
-  ahead : (k : Option NodeId) (next : ℕ) → ((js : List (Option NodeId)) → all_below nodes (k ∷ js) ≡ true → all_below nodes js ≡ true)
-      → Option.map (λ js. k ∷ js) (short_kids (run s next (end - next))) ≡ some ks → Before s next end nodes k ks
+  pub walk_kid : (k : Option NodeId) (rest : Text) → Option.map (λ js. k ∷ js) (short_kids rest) ≡ short_kids v → Before rest nodes k ks
   unfolding short_kids
-  ahead k next under w = go (kid_list (run s next (end - next))) refl w
+  walk_kid k rest q = go (kid_list rest) refl (q ∙ walked)
     where
-      go : (o : Option (List (Option NodeId))) → kid_list (run s next (end - next)) ≡ o → Option.map (λ js. k ∷ js) (Option.map (map short_kid) o) ≡ some ks → Before s next end nodes k ks
+      go : (o : Option (List (Option NodeId))) → kid_list rest ≡ o → Option.map (λ js. k ∷ js) (Option.map (map short_kid) o) ≡ some ks → Before rest nodes k ks
       go none u v = let z : ◌≡◌ {A = ℕ} 0 1 = cc in absurd (omega arith)
       go (some js) u v =
           let c : k ∷ map short_kid js ≡ ks = cc in
-          let a : all_below nodes js ≡ true = sym (below_short nodes l js) ∙ under (map short_kid js) (rw c b) in
-          record { rest = js; these = sym (rw (short_same nodes l js a) at c); listed = u; below = a }
-
-  pub walk_absent : (next : ℕ) → r ≡ step.Absent next → Before s next end nodes none ks
-  unfolding all_below
-  walk_absent next q = ahead none next (λ js h. h) (rw q at walked)
-
-  pub walk_number : (x next : ℕ) → r ≡ step.Number x next → Before s next end nodes (some x) ks
-  unfolding all_below
-  walk_number x next q = ahead (some x) next (λ js h. and_elim_right (ltb x nodes) (all_below nodes js) h) (rw q at walked)
+          let a : all_below nodes js ≡ true = sym (below_short nodes l js) ∙ under nodes k (map short_kid js) (ap (all_below nodes) c ∙ b) in
+          record { others = js; these = sym (rw (short_same nodes l js a) at c); listed = u; below = a }

@@ -1,9 +1,10 @@
+pub mod KindLaws
 pub mod LineLaws
 pub mod DecimalLaws
 pub mod NumberLaws
-pub mod KindLaws
-pub mod VerdictLaws
-pub mod KidLaws
+pub mod Exits
 pub mod TextLaws
+pub mod KidLaws
+pub mod VerdictLaws
 pub mod NodeLaws
 pub mod SheetLaws

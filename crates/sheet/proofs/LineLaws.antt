@@ -1,29 +1,28 @@
 -- Laws of a line: its key, its end, and what a field makes of its value. Assumes nothing.
 use Rattle.std.specs.Prelude.{if◌then◌else◌}
-use mathlib.Core.Path.{◌≡◌, refl, sym, ap, subst⁻¹, ◌∙◌}
-use mathlib.Core.Bool.{Bool, true, false, ◌&&◌}
-use mathlib.Core.List.{List, [], ◌∷◌, ◌++◌, append-nil, append_assoc}
+use Rattle.std.specs.Prelude as rust
+use Rattle.std.specs.Prelude.{MatchOption, position}
+use Rattle.std.specs.List.{position_or_len}
+use Rattle.std.specs.Borrow.{Bor}
+use lib.Pointwise.{pointwise}
+use mathlib.Core.Path.{◌≡◌, refl, sym, ap, ◌∙◌}
+use mathlib.Core.Bool.{Bool, true, false, ◌&&◌, cond, not}
+use mathlib.Core.List.{List, [], ◌∷◌}
 use mathlib.Core.Option.{Option, none, some, map}
 use Prim.Native.Nat.{ℕ, suc, ◌+◌, ◌-◌, ◌≤◌, ◌<◌}
 use Prim.Native.String.{String}
 use native.Mathlib.Omega.{arith}
-use native.Mathlib.Numerals.{add-one}
-use lib.ListN.{length, get_or, take, drop, drop_of_length-le, length-drop}
-use lib.Seq.{drop-cons, drop-drop}
-use lib.Dec.{eqb}
-use borrow.Author.Tests.{ne_eqb}
+use lib.ListN.{length, take, drop, length-drop}
+use lib.Seq.{drop-drop, take_all, length-take-le}
+use lib.Dec.{eqb, ltb}
+use borrow.Author.Tests.{ltb-true, ltb-false}
 use Rattle.words.specs.Runs.{run}
-use Rattle.words.specs.Equality.{equalb}
-use Rattle.words.proofs.RunLaws.{length_run, run_snoc, run_none}
+use Rattle.words.proofs.RunLaws.{length_run}
 use Rattle.spec.specs.Basics.{Text, bytes, maybe}
 use Rattle.spec.specs.Sheet.{Fault, malformed, Got, got, bad, next, after, up_to_end, line, field, number}
 use Rattle.spec.proofs.reading.Places.{after_rest, end_inside}
 use Rattle.sheet.specs.Keyed.{line_of, field_of, number_of}
-use Rattle.sheet.specs.Lines.{after_key, up_to, EndInside, got_line, ValueInside}
-use Rattle.sheet.specs.declared.lines.LineEnd.{LineEnd}
-use Rattle.sheet.specs.declared.lines.LineEnd.TheVariants as found
-use Rattle.sheet.specs.declared.lines.LineRead.{LineRead}
-use Rattle.sheet.specs.declared.lines.LineRead.TheVariants as read
+use Rattle.sheet.specs.Lines.{rest_of, got_line, ValueInside}
 use Rattle.sheet.specs.declared.position.Span.{Span}
 
 -- ---- the key as bytes
@@ -32,148 +31,109 @@ unfolding line_of line field_of field number_of number
 number_is key why lo hi s at = refl
 
 -- ---- the key
-after_short : (key l : List ℕ) → length l < length key → after key l ≡ none
+after_is : (key l : List ℕ) → after key l ≡ (if pointwise eqb (take (length key) l) key then some (drop (length key) l) else none)
 unfolding after
-after_short [] l h = absurd (omega (arith, h))
-after_short (k ∷ ks) [] h = refl
-after_short (k ∷ ks) (c ∷ l) h = go (eqb c k) (after_short ks l (omega (arith, h)))
+after_is [] l = refl
+after_is (k ∷ ks) [] = refl
+after_is (k ∷ ks) (c ∷ l) = go (eqb c k) (after_is ks l)
   where
-    go : (t : Bool) → after ks l ≡ none → (if t then after ks l else none) ≡ none
+    go : (t : Bool) → after ks l ≡ (if pointwise eqb (take (length ks) l) ks then some (drop (length ks) l) else none)
+        → (if t then after ks l else none) ≡ (if t && pointwise eqb (take (length ks) l) ks then some (drop (length ks) l) else none)
     go true e = e
     go false e = refl
 
-after_equal : (key l : List ℕ) → length key ≤ length l → after_key (equalb (take (length key) l) key) (length key) l ≡ after key l
-unfolding after equalb
-after_equal [] l h = refl
-after_equal (k ∷ ks) [] h = absurd (omega (arith, h))
-after_equal (k ∷ ks) (c ∷ l) h = go (eqb c k) (after_equal ks l (omega (arith, h)))
+pub key_is : (key l m : List ℕ) → m ≡ l → (r : rust.Option (Bor (List ℕ)))
+    → MatchOption r (pointwise eqb (take (length key) m) key ≡ false) (λ x. (pointwise eqb (take (length key) m) key ≡ true) × (x.now ≡ drop (length key) m) × (length x.now + length key ≡ length m))
+    → rest_of r ≡ after key l
+key_is key l m e rust.None h = sym (after_is key l ∙ rw (← e, h))
+key_is key l m e (rust.Some x) h = sym (after_is key l ∙ rw (← e, h.0, h.1))
+
+after_drop : (key l rest : List ℕ) → after key l ≡ some rest → rest ≡ drop (length key) l
+after_drop key l rest e = go (pointwise eqb (take (length key) l) key) (sym (after_is key l) ∙ e)
   where
-    go : (t : Bool) → after_key (equalb (take (length ks) l) ks) (length ks) l ≡ after ks l
-        → after_key (t && equalb (take (length ks) l) ks) (suc (length ks)) (c ∷ l) ≡ (if t then after ks l else none)
-    go true e = with_head (equalb (take (length ks) l) ks) ∙ e
-      where
-        with_head : (t : Bool) → after_key t (suc (length ks)) (c ∷ l) ≡ after_key t (length ks) l
-        with_head true = refl
-        with_head false = refl
-    go false e = refl
+    go : (t : Bool) → (if t then some (drop (length key) l) else none) ≡ some rest → rest ≡ drop (length key) l
+    go true f = cc
+    go false f = let z : ◌≡◌ {A = ℕ} 0 1 = cc in absurd (omega arith)
 
-module _ (s : List ℕ) (at : ℕ) (key : List ℕ) (h : at ≤ length s) where
-  pub key_short : length s - at < length key → none ≡ after key (drop at s)
-  key_short k = sym (after_short key (drop at s) (omega (arith, length-drop at s)))
+-- what a slice from a place on has
+pub slice_from : (s : List ℕ) (at : ℕ) → at ≤ length s → take (length s - at) (drop at s) ≡ drop at s
+slice_from s at h = take_all (length s - at) (drop at s) (omega (arith, length-drop at s))
 
-  pub key_compared : length key ≤ length s - at → (r : Bool) → r ≡ equalb (take (at + length key - at) (drop at s)) key
-      → after_key r (at + length key) s ≡ after key (drop at s)
-  key_compared k r e =
-      let n : at + length key - at ≡ length key = omega arith in
-      let q : r ≡ equalb (take (length key) (drop at s)) key = rw n at e in
-      rw q (dropped (equalb (take (length key) (drop at s)) key) ∙ after_equal key (drop at s) (omega (arith, length-drop at s)))
+-- ---- the first place that passes a test
+module _ (p : ℕ → Bool) (l : List ℕ) where
+  pub first_some : (n : ℕ) → rust.Some n ≡ position p l → (n ≡ position_or_len p l) × (n < length l)
+  first_some n e = go (ltb (position_or_len p l) (length l)) refl e
     where
-      dropped : (t : Bool) → after_key t (at + length key) s ≡ after_key t (length key) (drop at s)
-      dropped true = ap some (sym (drop-drop (length key) at s))
-      dropped false = refl
+      go : (t : Bool) → ltb (position_or_len p l) (length l) ≡ t → rust.Some n ≡ cond t (rust.Some (position_or_len p l)) rust.None → (n ≡ position_or_len p l) × (n < length l)
+      go true f q = let same : n ≡ position_or_len p l = cc in (same, omega (arith, same, ltb-true (position_or_len p l) (length l) f))
+      go false f q = let z : ◌≡◌ {A = ℕ} 0 1 = cc in absurd (omega arith)
+
+  pub first_none : rust.None ≡ position p l → length l ≤ position_or_len p l
+  first_none e = go (ltb (position_or_len p l) (length l)) refl e
+    where
+      go : (t : Bool) → ltb (position_or_len p l) (length l) ≡ t → rust.None ≡ cond t (rust.Some (position_or_len p l)) rust.None → length l ≤ position_or_len p l
+      go true f q = let z : ◌≡◌ {A = ℕ} 0 1 = cc in absurd (omega arith)
+      go false f q = ltb-false (position_or_len p l) (length l) f
 
 -- ---- the end
-pub end_here : (c : ℕ) (l : List ℕ) → c ≡ 10 → up_to_end (c ∷ l) ≡ some []
-unfolding up_to_end
-end_here c l e = subst⁻¹ (λ (x : ℕ). up_to_end (x ∷ l) ≡ some []) e refl
+abbrev is_end : ℕ → Bool
+is_end b = eqb b 10
 
-pub end_later : (c : ℕ) (l : List ℕ) → (c ≡ 10 → ⊥) → up_to_end (c ∷ l) ≡ map (λ v. c ∷ v) (up_to_end l)
+pub end_found : (l : List ℕ) → position_or_len is_end l < length l → up_to_end l ≡ some (take (position_or_len is_end l) l)
 unfolding up_to_end
-end_later c l n = go (eqb c 10) (ne_eqb c 10 n)
+end_found [] h = absurd (omega (arith, h))
+end_found (c ∷ l) h = go (eqb c 10) (end_found l) h
   where
-    go : (t : Bool) → t ≡ false → elim t [ true ↦ some [] | false ↦ map (λ v. c ∷ v) (up_to_end l) ] ≡ map (λ v. c ∷ v) (up_to_end l)
-    go true e = cc
-    go false e = refl
+    go : (t : Bool) → (position_or_len is_end l < length l → up_to_end l ≡ some (take (position_or_len is_end l) l)) → cond (not t) (1 + position_or_len is_end l) 0 < length (c ∷ l)
+        → elim t [ true ↦ some [] | false ↦ map (λ v. c ∷ v) (up_to_end l) ] ≡ some (take (cond (not t) (1 + position_or_len is_end l) 0) (c ∷ l))
+    go true f k = refl
+    go false f k = let e : 1 + position_or_len is_end l ≡ suc (position_or_len is_end l) = omega arith in rw (f (omega (arith, k)), e)
 
-abbrev before : List ℕ → Option Text → Option Text
-before xs o = map (λ v. xs ++ v) o
+pub end_missing : (l : List ℕ) → length l ≤ position_or_len is_end l → up_to_end l ≡ none
+unfolding up_to_end
+end_missing [] h = refl
+end_missing (c ∷ l) h = go (eqb c 10) (end_missing l) h
+  where
+    go : (t : Bool) → (length l ≤ position_or_len is_end l → up_to_end l ≡ none) → length (c ∷ l) ≤ cond (not t) (1 + position_or_len is_end l) 0
+        → ◌≡◌ {A = Option Text} (elim t [ true ↦ some [] | false ↦ map (λ v. c ∷ v) (up_to_end l) ]) none
+    go true f k = absurd (omega (arith, k))
+    go false f k = rw (f (omega (arith, k)))
 
-before_none : (o : Option Text) → o ≡ before [] o
-before_none none = refl
-before_none (some v) = refl
-
-before_snoc : (xs : List ℕ) (c : ℕ) (o : Option Text) → before xs (map (λ v. c ∷ v) o) ≡ before (xs ++ (c ∷ [])) o
-before_snoc xs c none = refl
-before_snoc xs c (some v) = ap some (sym (append_assoc xs (c ∷ []) v))
-
--- the loop: from `start` to i there is no byte 10
-pub record Scanned (s : List ℕ) (start i : ℕ) : Type 0 where
-  pub low : start ≤ i
-  pub high : i ≤ length s
-  pub same : up_to_end (drop start s) ≡ before (run s start (i - start)) (up_to_end (drop i s))
-
-pub scan_start : (s : List ℕ) (start : ℕ) → start ≤ length s → Scanned s start start
-scan_start s start h = record {
-  low = omega arith;
-  high = h;
-  same = rw (run_none s start start start (omega arith)) (before_none (up_to_end (drop start s)));
-}
-
-module _ (s : List ℕ) (start i : ℕ) (r : Scanned s start i) where
-  pub scan_found : i < length s → get_or s i 0 ≡ 10 → some (run s start (i - start)) ≡ up_to_end (drop start s)
-  scan_found h e = sym (r.same ∙ rw (drop-cons s i 0, end_here (get_or s i 0) (drop (suc i) s) e) (ap some (append-nil (run s start (i - start)))))
-
-  pub scan_more : i < length s → (get_or s i 0 ≡ 10 → ⊥) → Scanned s start (i + 1)
-  scan_more h n =
-      let k : i + 1 - start ≡ i - start + 1 = omega (arith, r.low) in
-      let p : start + (i - start) ≡ i = omega (arith, r.low) in
-      let q : start + (i - start) < length s = omega arith in
-      record {
-        low = omega (arith, r.low);
-        high = omega arith;
-        same =
-            r.same ∙ rw (drop-cons s i 0, end_later (get_or s i 0) (drop (suc i) s) n, k, run_snoc s start (i - start) q, p, add-one i)
-            (before_snoc (run s start (i - start)) (get_or s i 0) (up_to_end (drop (suc i) s)));
-      }
-
-  pub scan_none : length s ≤ i → none ≡ up_to_end (drop start s)
-  unfolding up_to_end
-  scan_none h = sym (r.same ∙ rw (drop_of_length-le s))
-
--- four bytes a turn: what is known before each of them
-module _ (s : List ℕ) (start i : ℕ) (r : Scanned s start i) (h : 3 < length s - i) (n : get_or s i 0 ≡ 10 → ⊥) where
-  pub scan_one : Scanned s start (i + 1)
-  scan_one = scan_more s start i r (omega arith) n
-
-  pub scan_two : (get_or s (i + 1) 0 ≡ 10 → ⊥) → Scanned s start (i + 2)
-  scan_two m = let e : i + 2 ≡ i + 1 + 1 = omega arith in rw e (scan_more s start (i + 1) scan_one (omega arith) m)
-
-  pub scan_three : (get_or s (i + 1) 0 ≡ 10 → ⊥) → (get_or s (i + 2) 0 ≡ 10 → ⊥) → Scanned s start (i + 3)
-  scan_three m o = let e : i + 3 ≡ i + 2 + 1 = omega arith in rw e (scan_more s start (i + 2) (scan_two m) (omega arith) o)
-
-  pub scan_four : (get_or s (i + 1) 0 ≡ 10 → ⊥) → (get_or s (i + 2) 0 ≡ 10 → ⊥) → (get_or s (i + 3) 0 ≡ 10 → ⊥) → Scanned s start (i + 4)
-  scan_four m o q = let e : i + 4 ≡ i + 3 + 1 = omega arith in rw e (scan_more s start (i + 3) (scan_three m o) (omega arith) q)
+-- ---- the whole line, by what follows its key
+pub line_at : (key s : List ℕ) (at : ℕ) (rest : List ℕ) → after key (drop at s) ≡ some rest → (o : Option Text) → up_to_end rest ≡ o
+    → line_of key s at ≡ maybe o (bad malformed at) (λ v. got v (at + length key + length v + 1))
+unfolding line_of
+line_at key s at rest e o f = rw (e, f)
 
 -- ---- the whole line, by what was found of its key and its end
-module _ (key s : List ℕ) (at : ℕ) (t : Bool) (e : after_key t (at + length key) s ≡ after key (drop at s)) where
-  pub line_other : t ≡ false → (got_line s at read.Malformed ≡ line_of key s at) × Unit {0}
+module _ (key s : List ℕ) (at : ℕ) (h : at ≤ length s) (r : rust.Option (Bor (List ℕ))) (e : rest_of r ≡ after key (drop at s)) where
+  pub line_other : r ≡ rust.None → bad malformed at ≡ line_of key s at
   unfolding line_of
-  line_other f = let g : none ≡ after key (drop at s) = rw f at e in (rw (← g), tt)
+  line_other q = let g : none ≡ after key (drop at s) = rw q at e in rw (← g)
 
-  pub key_inside : t ≡ true → at ≤ length s → at + length key ≤ length s
-  key_inside f h =
-      let g : some (drop (at + length key) s) ≡ after key (drop at s) = rw f at e in
-      omega (arith, after_rest key (drop at s) (drop (at + length key) s) (sym g), length-drop at s)
+  module _ (rest : Bor (List ℕ)) (q : r ≡ rust.Some rest) where
+    there : after key (drop at s) ≡ some rest.now
+    there = sym (rw q at e)
 
-  module _ (f : t ≡ true) (r : LineEnd) (g : up_to r (at + length key) s ≡ up_to_end (drop (at + length key) s)) where
-    there : after key (drop at s) ≡ some (drop (at + length key) s)
-    there = sym (rw f at e)
+    pub rest_is : rest.now ≡ drop (at + length key) s
+    rest_is = after_drop key (drop at s) rest.now there ∙ drop-drop (length key) at s
 
-    pub line_endless : r ≡ found.Missing → (got_line s at read.Malformed ≡ line_of key s at) × Unit {0}
+    pub line_endless : rust.None ≡ position is_end rest.now → bad malformed at ≡ line_of key s at
     unfolding line_of
-    line_endless q = let k : none ≡ up_to_end (drop (at + length key) s) = rw q at g in (rw (there, ← k), tt)
+    line_endless f = rw (there, end_missing rest.now (first_none is_end rest.now f))
 
-    pub line_value : EndInside r (at + length key) (length s) → (end : ℕ) → r ≡ found.At end
-        → (got_line s at (read.Value (record { start = at + length key; end = end })) ≡ line_of key s at) × ((at + length key ≤ end) × (end < length s))
-    unfolding line_of
-    line_value i end q =
-        let k : some (run s (at + length key) (end - (at + length key))) ≡ up_to_end (drop (at + length key) s) = rw q at g in
-        let o : (at + length key ≤ end) × (end < length s) = rw q at i in
-        let l = length_run s (at + length key) (end - (at + length key)) (omega arith) in
-        (rw (there, ← k, l) (ap (got (run s (at + length key) (end - (at + length key)))) (omega arith)), o)
+    pub line_long : (n : ℕ) → rust.Some n ≡ position is_end rest.now → at + length key + n < length s
+    line_long n f = let k = first_some is_end rest.now n f in omega (arith, k.1, ap length rest_is, length-drop (at + length key) s)
 
-pub value_inside : (r : LineRead) (v : Span) (n : ℕ) → r ≡ read.Value v → ValueInside r n → (v.start ≤ v.end) × (v.end < n)
-value_inside r v n e i = rw e at i
+    pub line_value : (n : ℕ) → rust.Some n ≡ position is_end rest.now
+        → got (run s (at + length key) (at + length key + n - (at + length key))) (at + length key + n + 1) ≡ line_of key s at
+    unfolding line_of run
+    line_value n f =
+        let k = first_some is_end rest.now n f in
+        let found = end_found rest.now (omega (arith, k.0, k.1)) in
+        let size = length-take-le n rest.now (omega (arith, k.1)) in
+        let a : at + length key + n - (at + length key) ≡ n = omega arith in
+        rw (there, found, ← k.0, size, a) (ap (λ (l : List ℕ). got (take n l) (at + length key + n + 1)) (sym rest_is))
 
 -- ---- a field: by what its value gives, tested
 module _ {A : Type 0} (key : Text) (parse : Text → Option A) (why : Fault) (test : A → Bool) (s : List ℕ) (at : ℕ) where

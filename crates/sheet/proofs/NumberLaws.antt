@@ -1,4 +1,5 @@
 -- Laws of a line with a number, one for each way out. Assumes nothing.
+use Rattle.std.specs.Prelude as rust
 use mathlib.Core.Path.{◌≡◌, refl, sym}
 use mathlib.Core.Bool.{true, false, ◌&&◌, and-false}
 use mathlib.Core.List.{List}
@@ -14,29 +15,25 @@ use Rattle.sheet.specs.Keyed.{line_of, field_of, number_of}
 use Rattle.sheet.specs.Decimals.{capped, got_decimal}
 use Rattle.sheet.specs.Lines.{got_line}
 use Rattle.sheet.specs.declared.position.Span.{Span}
-use Rattle.sheet.specs.declared.lines.LineRead.{LineRead}
-use Rattle.sheet.specs.declared.lines.LineRead.TheVariants as read
-use Rattle.sheet.specs.declared.decimals.Spelled.{Spelled}
-use Rattle.sheet.specs.declared.decimals.Spelled.TheVariants as spelled
 use Rattle.sheet.proofs.LineLaws.{field_other, field_malformed, field_wrong, field_right}
 use Rattle.sheet.proofs.DecimalLaws.{exact, spelled_none}
 
-module _ (key : Text) (why : Fault) (lo hi : ℕ) (s : List ℕ) (at : ℕ) (line : LineRead) (e : got_line s at line ≡ line_of key s at) where
-  pub number_other : line ≡ read.Malformed → bad malformed at ≡ number_of key why lo hi s at
+module _ (key : Text) (why : Fault) (lo hi : ℕ) (s : List ℕ) (at : ℕ) (line : rust.Option Span) (e : got_line s at line ≡ line_of key s at) where
+  pub number_other : line ≡ rust.None → bad malformed at ≡ number_of key why lo hi s at
   unfolding number_of
   number_other q = let f : bad malformed at ≡ line_of key s at = rw q at e in sym (field_other key decimal why _ s at _ _ (sym f))
 
-  module _ (v : Span) (q : line ≡ read.Value v) (n : Spelled) (d : got_decimal n ≡ map capped (decimal (run s v.start (v.end - v.start)))) where
+  module _ (v : Span) (q : line ≡ rust.Some v) (n : rust.Option ℕ) (d : got_decimal n ≡ map capped (decimal (run s v.start (v.end - v.start)))) where
     here : line_of key s at ≡ got (run s v.start (v.end - v.start)) (v.end + 1)
     here = sym (rw q at e)
 
-    pub number_malformed : n ≡ spelled.Malformed → bad malformed at ≡ number_of key why lo hi s at
+    pub number_malformed : n ≡ rust.None → bad malformed at ≡ number_of key why lo hi s at
     unfolding number_of
     number_malformed p =
         let f : none ≡ map capped (decimal (run s v.start (v.end - v.start))) = rw p at d in
         sym (field_malformed key decimal why _ s at _ _ here (spelled_none _ f))
 
-    module _ (x : ℕ) (p : n ≡ spelled.Number x) where
+    module _ (x : ℕ) (p : n ≡ rust.Some x) where
       told : some x ≡ map capped (decimal (run s v.start (v.end - v.start)))
       told = rw p at d
 

@@ -1,95 +1,79 @@
 -- Laws of hex, and of the rules for texts. Assumes nothing.
+use Rattle.std.specs.Prelude as rust
+use Rattle.std.specs.Prelude.{position}
+use Rattle.std.specs.List.{position_or_len}
+use Rattle.std.specs.Borrow.{Bor}
+use Rattle.std.proofs.lemmas.List.Sums.{position_or_len_is, fails_before_first, passes_at_first}
+use Rattle.std.proofs.lemmas.List.{get_or-take}
 use mathlib.Core.Path.{◌≡◌, refl, sym, ap, ◌∙◌}
-use mathlib.Core.Bool.{Bool, true, false, ◌&&◌}
-use mathlib.Core.List.{List, [], ◌∷◌}
+use mathlib.Core.Bool.{Bool, true, false, ◌&&◌, not}
+use mathlib.Core.List.{List, [], ◌∷◌, ◌++◌, append-nil, append_assoc}
 use mathlib.Core.Option.{Option, none, some, map}
-use Prim.Native.Nat.{ℕ, zero, suc, ◌+◌, ◌-◌, ◌*◌, ◌/◌, ◌≤◌, ◌<◌}
+use Prim.Native.Nat.{ℕ, zero, suc, ◌+◌, ◌-◌, ◌*◌, ◌/◌, ◌%◌, ◌≤◌, ◌<◌}
 use native.Mathlib.Omega.{arith}
-use native.Mathlib.Numerals.{add-one}
-use lib.ListN.{length, get_or, take, set, length-set}
-use lib.Seq.{take-suc, take_all, length-take-le}
-use lib.Dec.{leb, ltb}
-use borrow.Author.Tests.{le-leb, lt-leb, leb-true, leb-false, ltb-true, ltb-false, eq-eqb, ne_eqb}
+use native.Mathlib.Decide.{dec_lt}
+use lib.ListN.{length, get_or, take, drop, set, length-set, length-drop, length-append}
+use lib.Seq.{length-take-le}
+use lib.Dec.{eqb, leb, ltb}
+use borrow.Author.Tests.{le-leb, lt-leb, leb-true, leb-false, ltb-true, ltb-false, le-ltb, eq-eqb, ne_eqb, eqb-true, eqb-false}
 use Rattle.words.specs.Runs.{run, splice}
-use Rattle.words.proofs.RunLaws.{length_run, run_none, splice_after}
-use Rattle.spec.specs.Basics.{Text, maybe}
+use Rattle.words.proofs.RunLaws.{splice_after}
+use Rattle.spec.specs.Basics.{Text, bytes, maybe}
 use Rattle.spec.specs.Kinds.{TextRule, no_text, any_text, digits, float, named}
-use Rattle.spec.specs.Sheet.{is_digit, all_digits, hex_digit, hex, bits_from, is_float, is_empty, text_fits}
+use Rattle.spec.specs.Sheet.{is_digit, all_digits, hex_digit, hex, bits_from, is_float, is_empty, text_fits, malformed, Got, got, bad, after, up_to_end, wrong_text}
+use Rattle.sheet.specs.Keyed.{field_of}
+use Rattle.sheet.specs.Lines.{rest_of}
+use Rattle.sheet.specs.Verdicts.{Formed}
+use Rattle.sheet.specs.declared.position.Span.{Span}
 use Rattle.sheet.specs.Texts.{is_there, is_hex, digit_of, byte_at, decoded, four_more}
-use Rattle.sheet.proofs.DecimalLaws.{span_cons, digit_is, digit_low, digit_high}
+use Rattle.sheet.proofs.DecimalLaws.{digit_is}
+use Rattle.sheet.proofs.LineLaws.{line_at, line_other, rest_is, field_other, field_malformed, field_right, slice_from, first_some, first_none, end_found, end_missing}
 
 -- ---- a digit
-hex_low : (c : ℕ) → c < 48 → hex_digit c ≡ none
-unfolding hex_digit
-hex_low c h = let k : c < 97 = omega arith in rw (digit_low c h, lt-leb 97 c k)
-
 hex_number : (c : ℕ) → 48 ≤ c → c ≤ 57 → hex_digit c ≡ some (c - 48)
 unfolding hex_digit
 hex_number c h k = rw (digit_is c h k)
 
-hex_between : (c : ℕ) → 57 < c → c < 97 → hex_digit c ≡ none
-unfolding hex_digit
-hex_between c h k = rw (digit_high c h, lt-leb 97 c k)
+outside : (a b c : ℕ) → (a ≤ c → c ≤ b → ⊥) → (leb a c && leb c b) ≡ false
+outside a b c n = go (leb a c) (leb c b) refl refl
+  where
+    go : (x y : Bool) → leb a c ≡ x → leb c b ≡ y → (x && y) ≡ false
+    go true true e f = absurd (n (leb-true a c e) (leb-true c b f))
+    go true false e f = refl
+    go false y e f = refl
 
 hex_letter : (c : ℕ) → 97 ≤ c → c ≤ 102 → hex_digit c ≡ some (c - 87)
-unfolding hex_digit
-hex_letter c h k = let n : 57 < c = omega arith in rw (digit_high c n, le-leb 97 c h, le-leb c 102 k)
+unfolding hex_digit is_digit
+hex_letter c h k = rw (outside 48 57 c (λ a b. omega arith), le-leb 97 c h, le-leb c 102 k)
 
-hex_high : (c : ℕ) → 102 < c → hex_digit c ≡ none
-unfolding hex_digit
-hex_high c h =
-    let n : 57 < c = omega arith in
-    let m : 97 ≤ c = omega arith in
-    rw (digit_high c n, le-leb 97 c m, lt-leb c 102 h)
+hex_other : (c : ℕ) → (48 ≤ c → c ≤ 57 → ⊥) → (97 ≤ c → c ≤ 102 → ⊥) → hex_digit c ≡ none
+unfolding hex_digit is_digit
+hex_other c n m = rw (outside 48 57 c n, outside 97 102 c m)
 
 module _ (c : ℕ) where
-  pub is_low : c < 48 → false ≡ is_hex c
-  unfolding is_hex
-  is_low h = rw (hex_low c h)
-
   pub is_number : 48 ≤ c → c ≤ 57 → true ≡ is_hex c
   unfolding is_hex
   is_number h k = rw (hex_number c h k)
 
-  pub is_between : 57 < c → c < 97 → false ≡ is_hex c
+  pub is_letter : 97 ≤ c → c ≤ 102 → true ≡ is_hex c
   unfolding is_hex
-  is_between h k = rw (hex_between c h k)
+  is_letter h k = rw (hex_letter c h k)
 
-  pub is_last : 97 ≤ c → leb c 102 ≡ is_hex c
+  pub is_other : (48 ≤ c → c ≤ 57 → ⊥) → (97 ≤ c → c ≤ 102 → ⊥) → false ≡ is_hex c
   unfolding is_hex
-  is_last h = go (leb c 102) refl
-    where
-      go : (t : Bool) → leb c 102 ≡ t → t ≡ is_there (hex_digit c)
-      go true e = rw (hex_letter c h (leb-true c 102 e))
-      go false e = rw (hex_high c (leb-false c 102 e))
-
-  pub of_low : c < 48 → (0 ≡ digit_of c) × (0 < 16)
-  unfolding digit_of
-  of_low h = (rw (hex_low c h), omega arith)
+  is_other n m = rw (hex_other c n m)
 
   pub of_number : 48 ≤ c → c ≤ 57 → (c - 48 ≡ digit_of c) × (c - 48 < 16)
   unfolding digit_of
   of_number h k = (rw (hex_number c h k), omega arith)
 
-  pub of_between : 57 < c → c < 97 → (0 ≡ digit_of c) × (0 < 16)
+  pub of_letter : 97 ≤ c → c ≤ 102 → (10 + (c - 97) ≡ digit_of c) × (10 + (c - 97) < 16)
   unfolding digit_of
-  of_between h k = (rw (hex_between c h k), omega arith)
+  of_letter h k = (rw (hex_letter c h k) (omega arith), omega arith)
 
-  pub of_letter : 97 ≤ c → c ≤ 102 → (c - 87 ≡ digit_of c) × (c - 87 < 16)
+  pub of_other : (48 ≤ c → c ≤ 57 → ⊥) → (97 ≤ c → c ≤ 102 → ⊥) → (0 ≡ digit_of c) × (0 < 16)
   unfolding digit_of
-  of_letter h k = (rw (hex_letter c h k), omega arith)
-
-  pub of_high : 102 < c → (0 ≡ digit_of c) × (0 < 16)
-  unfolding digit_of
-  of_high h = (rw (hex_high c h), omega arith)
-
-  pub digit_test : 48 ≤ c → leb c 57 ≡ is_digit c
-  unfolding is_digit
-  digit_test h = rw (le-leb 48 c h)
-
-pub byte_of : (s : List ℕ) (at x y : ℕ) → x ≡ digit_of (get_or s at 0) → y ≡ digit_of (get_or s (at + 1) 0) → 16 * x + y ≡ byte_at s at
-unfolding byte_at
-byte_of s at x y e f = rw (e, f)
+  of_other n m = (rw (hex_other c n m), omega arith)
 
 -- ---- hex gives the decoded bytes, where the text is hex
 there_pair : (a b : ℕ) (l : Text) → is_there (hex (a ∷ b ∷ l)) ≡ (is_hex a && (is_hex b && is_there (hex l)))
@@ -124,107 +108,244 @@ hex_decoded v e = go (hex v) refl e
     go none f q = cc
     go (some t) f q = ap some (text_agree v t f)
 
--- ---- two digits at a place
-pair_cons : (s : List ℕ) (i end : ℕ) → i + 1 < end → end ≤ length s → run s i (end - i) ≡ get_or s i 0 ∷ get_or s (i + 1) 0 ∷ run s (i + 2) (end - (i + 2))
-pair_cons s i end k h =
-    let p = span_cons s i end (omega arith) h in
-    let q = span_cons s (i + 1) end k h in
-    let a : i + 1 + 1 ≡ i + 2 = omega arith in
-    p ∙ ap (λ (l : Text). get_or s i 0 ∷ l) (rw a at q)
+-- ---- which texts are hex
+abbrev AllHex : Text → Type 0
+AllHex v = (k : ℕ) → k < length v → is_hex (get_or v k 0) ≡ true
 
-pub decoded_cons : (s : List ℕ) (i end : ℕ) → i + 1 < end → end ≤ length s → decoded (run s i (end - i)) ≡ byte_at s i ∷ decoded (run s (i + 2) (end - (i + 2)))
-unfolding decoded byte_at
-decoded_cons s i end k h = rw (pair_cons s i end k h)
-
-short_list : (v : Text) → length v < 2 → decoded v ≡ []
-unfolding decoded
-short_list [] h = refl
-short_list (a ∷ []) h = refl
-short_list (a ∷ b ∷ v) h = absurd (omega (arith, h))
-
-pub decoded_none : (s : List ℕ) (i end : ℕ) → i ≤ end → end ≤ length s → end - i < 2 → decoded (run s i (end - i)) ≡ []
-decoded_none s i end o h k = let l = length_run s i (end - i) (omega arith) in short_list (run s i (end - i)) (omega arith)
-
--- ---- the loop that judges the form
-pub record Hexed (s : List ℕ) (start end i : ℕ) : Type 0 where
-  pub low : start ≤ i
-  pub high : i ≤ end
-  pub same : is_there (hex (run s start (end - start))) ≡ is_there (hex (run s i (end - i)))
-
-pub hexed_start : (s : List ℕ) (start end : ℕ) → start ≤ end → Hexed s start end start
-hexed_start s start end h = record { low = omega arith; high = h; same = refl }
-
-one_none : (v : Text) → length v ≡ 1 → is_there (hex v) ≡ false
+-- one byte that is no digit spoils a text
+pub hex_spoiled : (v : Text) (i : ℕ) → i < length v → is_hex (get_or v i 0) ≡ false → is_there (hex v) ≡ false
 unfolding hex
-one_none [] e = absurd (omega (arith, e))
-one_none (a ∷ []) e = refl
-one_none (a ∷ b ∷ v) e = absurd (omega (arith, e))
+hex_spoiled [] i h e = absurd (omega (arith, h))
+hex_spoiled (a ∷ []) i h e = refl
+hex_spoiled (a ∷ b ∷ l) zero h e = there_pair a b l ∙ rw e
+hex_spoiled (a ∷ b ∷ l) (suc zero) h e = there_pair a b l ∙ rw e (go (is_hex a))
+  where
+    go : (t : Bool) → (t && false) ≡ false
+    go true = refl
+    go false = refl
+hex_spoiled (a ∷ b ∷ l) (suc (suc i)) h e = there_pair a b l ∙ rw (hex_spoiled l i (omega (arith, h)) e) (go (is_hex a) (is_hex b))
+  where
+    go : (t u : Bool) → (t && (u && false)) ≡ false
+    go true true = refl
+    go true false = refl
+    go false u = refl
 
-module _ (s : List ℕ) (start end i : ℕ) (h : end ≤ length s) (r : Hexed s start end i) where
-  pub hexed_odd : end - i ≡ 1 → false ≡ is_there (hex (run s start (end - start)))
-  hexed_odd e = sym (r.same ∙ one_none (run s i (end - i)) (length_run s i (end - i) (omega (arith, r.high)) ∙ e))
+-- and so does a digit alone
+pub hex_odd : (v : Text) (n : ℕ) → length v ≡ 2 * n + 1 → is_there (hex v) ≡ false
+unfolding hex
+hex_odd [] n e = absurd (omega (arith, e))
+hex_odd (a ∷ []) n e = refl
+hex_odd (a ∷ b ∷ l) zero e = absurd (omega (arith, e))
+hex_odd (a ∷ b ∷ l) (suc n) e = there_pair a b l ∙ rw (hex_odd l n (omega (arith, e))) (go (is_hex a) (is_hex b))
+  where
+    go : (t u : Bool) → (t && (u && false)) ≡ false
+    go true true = refl
+    go true false = refl
+    go false u = refl
 
-  pub hexed_end : end ≤ i → true ≡ is_there (hex (run s start (end - start)))
-  unfolding hex
-  hexed_end k = sym (r.same ∙ rw (run_none s i end i k))
+pub hex_even : (v : Text) (n : ℕ) → length v ≡ 2 * n → AllHex v → is_there (hex v) ≡ true
+unfolding hex
+hex_even [] n e d = refl
+hex_even (a ∷ []) n e d = absurd (omega (arith, e))
+hex_even (a ∷ b ∷ l) zero e d = absurd (omega (arith, e))
+hex_even (a ∷ b ∷ l) (suc n) e d =
+    there_pair a b l ∙ rw (d 0 (omega arith), d 1 (omega arith), hex_even l n (omega (arith, e)) (λ k h. d (suc (suc k)) (omega (arith, h))))
 
-  module _ (k : i < end) (n : end - i ≡ 1 → ⊥) (x : Bool) (e : x ≡ is_hex (get_or s i 0)) where
-    pair : is_there (hex (run s start (end - start))) ≡ (is_hex (get_or s i 0) && (is_hex (get_or s (i + 1) 0) && is_there (hex (run s (i + 2) (end - (i + 2))))))
-    pair = r.same ∙ ap (λ (v : Text). is_there (hex v)) (pair_cons s i end (omega (arith, n)) h) ∙ there_pair (get_or s i 0) (get_or s (i + 1) 0) (run s (i + 2) (end - (i + 2)))
+pub hex_none : (v : Text) → is_there (hex v) ≡ false → hex v ≡ none
+hex_none v e = go (hex v) e
+  where
+    go : (o : Option Text) → is_there o ≡ false → o ≡ none
+    go none q = refl
+    go (some t) q = cc
 
-    pub hexed_first : x ≡ false → false ≡ is_there (hex (run s start (end - start)))
-    hexed_first q = let f : is_hex (get_or s i 0) ≡ false = sym e ∙ q in sym (pair ∙ rw f)
+-- ---- the line of a text: where the digits end
+abbrev is_none : ℕ → Bool
+is_none c = not (is_hex c)
 
-    module _ (p : x ≡ true) (y : Bool) (g : y ≡ is_hex (get_or s (i + 1) 0)) where
-      pub hexed_second : y ≡ false → false ≡ is_there (hex (run s start (end - start)))
-      hexed_second q =
-          let f : is_hex (get_or s i 0) ≡ true = sym e ∙ p in
-          let j : is_hex (get_or s (i + 1) 0) ≡ false = sym g ∙ q in
-          sym (pair ∙ rw (f, j))
+abbrev is_end : ℕ → Bool
+is_end b = eqb b 10
 
-      pub hexed_more : y ≡ true → Hexed s start end (i + 2)
-      hexed_more q =
-          let f : is_hex (get_or s i 0) ≡ true = sym e ∙ p in
-          let j : is_hex (get_or s (i + 1) 0) ≡ true = sym g ∙ q in
-          record { low = omega (arith, r.low); high = omega (arith, n); same = pair ∙ rw (f, j) }
+not_false : (t : Bool) → not t ≡ false → t ≡ true
+not_false true e = refl
+not_false false e = cc
+
+not_true : (t : Bool) → not t ≡ true → t ≡ false
+not_true true e = cc
+not_true false e = refl
+
+-- byte 10 is no digit
+end_other : (c : ℕ) → c ≡ 10 → is_hex c ≡ true → ⊥
+end_other c e q =
+    let f : false ≡ is_hex c = is_other c (λ a b. omega arith) (λ a b. omega arith) in
+    let g : false ≡ true = f ∙ q in
+    let z : ◌≡◌ {A = ℕ} 0 1 = cc in
+    omega arith
+
+some_same : {A : Type 0} {x y : A} → some x ≡ some y → x ≡ y
+some_same e = cc
+
+module _ (rest : Text) where
+  -- no end: all bytes are digits
+  pub text_endless : rust.None ≡ position is_none rest → up_to_end rest ≡ none
+  text_endless e = end_missing rest (go (ltb (position_or_len is_end rest) (length rest)) refl)
+    where
+      go : (t : Bool) → ltb (position_or_len is_end rest) (length rest) ≡ t → length rest ≤ position_or_len is_end rest
+      go true f =
+          let k = ltb-true (position_or_len is_end rest) (length rest) f in
+          let all = first_none is_none rest e in
+          absurd (end_other _ (eqb-true _ 10 (passes_at_first is_end rest 0 k))
+          (not_false _ (fails_before_first is_none rest (position_or_len is_end rest) 0 (omega arith))))
+      go false f = ltb-false (position_or_len is_end rest) (length rest) f
+
+  module _ (n : ℕ) (e : rust.Some n ≡ position is_none rest) where
+    at_n : (n ≡ position_or_len is_none rest) × (n < length rest)
+    at_n = first_some is_none rest n e
+
+    digit_before : (k : ℕ) → k < n → is_hex (get_or rest k 0) ≡ true
+    digit_before k h = not_false _ (fails_before_first is_none rest k 0 (omega (arith, at_n.0)))
+
+    none_here : is_hex (get_or rest n 0) ≡ false
+    none_here = rw (at_n.0) (not_true _ (passes_at_first is_none rest 0 (omega (arith, at_n.0, at_n.1))))
+
+    long : length (take n rest) ≡ n
+    long = length-take-le n rest (omega (arith, at_n.1))
+
+    pub text_ended : get_or rest n 0 ≡ 10 → up_to_end rest ≡ some (take n rest)
+    text_ended q =
+        let p = position_or_len_is is_end rest n 0 (omega (arith, at_n.1)) (λ k h. ne_eqb (get_or rest k 0) 10 (λ z. end_other _ z (digit_before k h))) (λ h. eq-eqb (get_or rest n 0) 10 q) in
+        end_found rest (omega (arith, p, at_n.1)) ∙ rw p
+
+    pub text_odd : (m : ℕ) → n ≡ 2 * m + 1 → hex (take n rest) ≡ none
+    text_odd m q = hex_none (take n rest) (hex_odd (take n rest) m (long ∙ q))
+
+    pub text_even : (m : ℕ) → n ≡ 2 * m → hex (take n rest) ≡ some (decoded (take n rest))
+    text_even m q = hex_decoded (take n rest) (hex_even (take n rest) m (long ∙ q) (λ k h. ap is_hex (get_or-take n rest k 0 (omega (arith, long))) ∙ digit_before k (omega (arith, long))))
+
+    -- another byte: the line does not end, or its text has that byte
+    pub text_spoiled : (get_or rest n 0 ≡ 10 → ⊥) → (v : Text) → up_to_end rest ≡ some v → hex v ≡ none
+    text_spoiled q v f = go (ltb (position_or_len is_end rest) (length rest)) refl
+      where
+        below : (e : ℕ) → get_or rest e 0 ≡ 10 → n < e
+        below e z = by (dec_lt n e) (dec_lt e n)
+          where
+            by : Dec (n < e) → Dec (e < n) → n < e
+            by (yes h) m = h
+            by (no l) (yes h) = absurd (end_other _ z (digit_before e h))
+            by (no l) (no m) = let s : n ≡ e = omega (arith, l, m) in absurd (q (rw s z))
+
+        go : (t : Bool) → ltb (position_or_len is_end rest) (length rest) ≡ t → hex v ≡ none
+        go true g =
+            let k = ltb-true (position_or_len is_end rest) (length rest) g in
+            let ten : get_or rest (position_or_len is_end rest) 0 ≡ 10 = eqb-true _ 10 (passes_at_first is_end rest 0 k) in
+            let same : take (position_or_len is_end rest) rest ≡ v = some_same (sym (end_found rest k) ∙ f) in
+            let size = length-take-le (position_or_len is_end rest) rest (omega arith) in
+            let before = below (position_or_len is_end rest) ten in
+            rw (← same) (hex_none _ (hex_spoiled _ n (omega (arith, before, size)) (ap is_hex (get_or-take (position_or_len is_end rest) rest n 0 before) ∙ none_here)))
+        go false g = let w : none ≡ some v = sym (end_missing rest (ltb-false (position_or_len is_end rest) (length rest) g)) ∙ f in cc
+
+-- ---- the line of a text, whatever its kind
+abbrev any : Text → Bool
+any t = true
+
+abbrev key : Text
+key = bytes "text="
+
+module _ (s : List ℕ) (at : ℕ) (h : at ≤ length s) where
+  -- no text: malformed
+  text_bad : (rest : Text) → after key (drop at s) ≡ some rest → ((v : Text) → up_to_end rest ≡ some v → hex v ≡ none) → bad malformed at ≡ field_of key hex wrong_text any s at
+  text_bad rest e f = go (up_to_end rest) refl
+    where
+      go : (o : Option Text) → up_to_end rest ≡ o → bad malformed at ≡ field_of key hex wrong_text any s at
+      go none g = sym (field_other key hex wrong_text any s at malformed at (line_at key s at rest e none g))
+      go (some v) g = sym (field_malformed key hex wrong_text any s at v _ (line_at key s at rest e (some v) g) (f v g))
+
+  module _ (r : rust.Option (Bor (List ℕ))) (e : rest_of r ≡ after key (drop at s)) where
+    pub text_other : r ≡ rust.None → bad malformed at ≡ field_of key hex wrong_text any s at
+    text_other q = sym (field_other key hex wrong_text any s at malformed at (sym (line_other key s at h r e q)))
+
+    module _ (rest : Bor (List ℕ)) (q : r ≡ rust.Some rest) where
+      there : after key (drop at s) ≡ some rest.now
+      there = sym (rw q at e)
+
+      pub text_no_end : rust.None ≡ position is_none rest.now → bad malformed at ≡ field_of key hex wrong_text any s at
+      text_no_end f = text_bad rest.now there (λ v g. let z : none ≡ some v = sym (text_endless rest.now f) ∙ g in cc)
+
+      module _ (n : ℕ) (f : rust.Some n ≡ position is_none rest.now) where
+        pub text_half : n % 2 ≡ 1 → bad malformed at ≡ field_of key hex wrong_text any s at
+        text_half g = text_bad rest.now there (λ v k. by v k (eqb (get_or rest.now n 0) 10) refl)
+          where
+            by : (v : Text) → up_to_end rest.now ≡ some v → (t : Bool) → eqb (get_or rest.now n 0) 10 ≡ t → hex v ≡ none
+            by v k true ten =
+                let w : take n rest.now ≡ v = some_same (sym (text_ended rest.now n f (eqb-true (get_or rest.now n 0) 10 ten)) ∙ k) in
+                rw (← w) (text_odd rest.now n f (n / 2) (omega arith))
+            by v k false other = text_spoiled rest.now n f (eqb-false (get_or rest.now n 0) 10 other) v k
+
+        pub text_other_byte : (get_or rest.now n 0 ≡ 10 → ⊥) → bad malformed at ≡ field_of key hex wrong_text any s at
+        text_other_byte g = text_bad rest.now there (text_spoiled rest.now n f g)
+
+        pub text_inside : n < length rest.now
+        text_inside = (at_n rest.now n f).1
+
+        pub text_long : at + 5 + n < length s
+        text_long = omega (arith, text_inside, ap length (rest_is key s at h r e rest q), length-drop (at + 5) s)
+
+        module _ (even : n % 2 ≡ 1 → ⊥) (ten : get_or rest.now n 0 ≡ 10) where
+          spanned : run s (at + 5) (at + 5 + n - (at + 5)) ≡ take n rest.now
+          unfolding run
+          spanned = let a : at + 5 + n - (at + 5) ≡ n = omega arith in rw a (ap (take n) (sym (rest_is key s at h r e rest q)))
+
+          is_text : hex (take n rest.now) ≡ some (decoded (take n rest.now))
+          is_text = text_even rest.now n f (n / 2) (omega arith)
+
+          pub text_value : got (decoded (run s (at + 5) (at + 5 + n - (at + 5)))) (at + 5 + n + 1) ≡ field_of key hex wrong_text any s at
+          text_value =
+              let l = length-take-le n rest.now (omega (arith, text_inside)) in
+              let line = line_at key s at rest.now there _ (text_ended rest.now n f ten) in
+              rw spanned (sym (field_right key hex wrong_text any s at (take n rest.now) _ (rw l at line) (decoded (take n rest.now)) is_text refl))
+
+          pub text_formed : Formed hex decoded any s (record { start = at + 5; end = at + 5 + n })
+          text_formed = record { ordered = omega arith; within = text_long; formed = rw spanned is_text; fits = refl }
+
+-- ---- two digits at the front
+pub decoded_front : (l : Text) → 2 ≤ length l → decoded l ≡ (16 * digit_of (get_or l 0 0) + digit_of (get_or l 1 0)) ∷ decoded (take (length l - 2) (drop 2 l))
+unfolding decoded
+decoded_front [] h = absurd (omega (arith, h))
+decoded_front (a ∷ []) h = absurd (omega (arith, h))
+decoded_front (a ∷ b ∷ l) h = rw (slice_from (a ∷ b ∷ l) 2 h)
+
+pub decoded_short : (v : Text) → length v < 2 → decoded v ≡ []
+unfolding decoded
+decoded_short [] h = refl
+decoded_short (a ∷ []) h = refl
+decoded_short (a ∷ b ∷ v) h = absurd (omega (arith, h))
+
+pub length_decoded : (v : Text) → length (decoded v) ≡ length v / 2
+unfolding decoded
+length_decoded [] = refl
+length_decoded (a ∷ []) = refl
+length_decoded (a ∷ b ∷ v) = let e = length_decoded v in omega arith
 
 -- ---- the rules
-module _ (s : List ℕ) (start end : ℕ) (o : start ≤ end) (h : end ≤ length s) where
-  pub empty_is : ltb (end - start) 2 ≡ is_empty (decoded (run s start (end - start)))
-  unfolding is_empty
-  empty_is = go (ltb (end - start) 2) refl
-    where
-      go : (t : Bool) → ltb (end - start) 2 ≡ t → t ≡ is_empty (decoded (run s start (end - start)))
-      go true e = rw (decoded_none s start end o h (ltb-true (end - start) 2 e))
-      go false e = rw (decoded_cons s start end (omega (arith, ltb-false (end - start) 2 e)) h)
+pub empty_is : (v : Text) → ltb (length v) 2 ≡ is_empty (decoded v)
+unfolding is_empty decoded
+empty_is [] = refl
+empty_is (a ∷ []) = refl
+empty_is (a ∷ b ∷ v) = rw (le-ltb (length (a ∷ b ∷ v)) 2 (omega arith))
 
 -- the loop over the bytes of a number
-pub record Numbers (s : List ℕ) (start end i : ℕ) : Type 0 where
-  pub low : start ≤ i
-  pub high : i ≤ end
-  pub same : all_digits (decoded (run s start (end - start))) ≡ all_digits (decoded (run s i (end - i)))
-
-pub numbers_start : (s : List ℕ) (start end : ℕ) → start ≤ end → Numbers s start end start
-numbers_start s start end h = record { low = omega arith; high = h; same = refl }
-
-module _ (s : List ℕ) (start end i : ℕ) (h : end ≤ length s) (r : Numbers s start end i) where
-  module _ (k : 1 < end - i) (b : ℕ) (e : b ≡ byte_at s i) (t : Bool) (f : t ≡ is_digit b) where
-    first : is_digit (byte_at s i) ≡ t
-    first = sym (f ∙ ap is_digit e)
-
-    pub numbers_other : t ≡ false → false ≡ all_digits (decoded (run s start (end - start)))
+module _ (text left : Text) (e : all_digits (decoded text) ≡ all_digits (decoded left)) where
+  module _ (h : 2 ≤ length left) (b : ℕ) (f : b ≡ 16 * digit_of (get_or left 0 0) + digit_of (get_or left 1 0)) where
+    pub numbers_other : is_digit b ≡ false → false ≡ all_digits (decoded text)
     unfolding all_digits
-    numbers_other q = let g : is_digit (byte_at s i) ≡ false = first ∙ q in sym (r.same ∙ rw (decoded_cons s i end (omega arith) h, g))
+    numbers_other q = let g : is_digit (16 * digit_of (get_or left 0 0) + digit_of (get_or left 1 0)) ≡ false = rw f at q in sym (e ∙ rw (decoded_front left h, g))
 
-    pub numbers_more : t ≡ true → Numbers s start end (i + 2)
+    pub numbers_more : is_digit b ≡ true → all_digits (decoded text) ≡ all_digits (decoded (take (length left - 2) (drop 2 left)))
     unfolding all_digits
-    numbers_more q =
-        let g : is_digit (byte_at s i) ≡ true = first ∙ q in
-        record { low = omega (arith, r.low); high = omega arith; same = r.same ∙ rw (decoded_cons s i end (omega arith) h, g) }
+    numbers_more q = let g : is_digit (16 * digit_of (get_or left 0 0) + digit_of (get_or left 1 0)) ≡ true = rw f at q in e ∙ rw (decoded_front left h, g)
 
-  pub numbers_end : end - i ≤ 1 → true ≡ all_digits (decoded (run s start (end - start)))
+  pub numbers_end : length left < 2 → true ≡ all_digits (decoded text)
   unfolding all_digits
-  numbers_end k = sym (r.same ∙ rw (decoded_none s i end r.high h (omega arith)))
+  numbers_end h = sym (e ∙ rw (decoded_short left h))
 
 module _ (t : Text) where
   pub number_none : true ≡ is_empty t → false ≡ text_fits digits 0 t
@@ -236,54 +357,33 @@ module _ (t : Text) where
   number_some e r q = rw (← e) q
 
 -- ---- a float
-pub four_is : (s : List ℕ) (at v x y z w : ℕ) → x ≡ byte_at s at → y ≡ byte_at s (at + 2) → z ≡ byte_at s (at + 4) → w ≡ byte_at s (at + 6)
-    → 256 * (256 * (256 * (256 * v + x) + y) + z) + w ≡ four_more s at v
-unfolding four_more
-four_is s at v x y z w a b c d = rw (a, b, c, d)
+pub float_long : (t : Text) → (length t / 2 ≡ 8 → ⊥) → false ≡ is_float (decoded t)
+unfolding is_float
+float_long t n = rw (ne_eqb (length (decoded t)) 8 (λ e. n (sym (length_decoded t) ∙ e)))
 
-pub length_decoded : (v : Text) → length (decoded v) ≡ length v / 2
-unfolding decoded
-length_decoded [] = refl
-length_decoded (a ∷ []) = refl
-length_decoded (a ∷ b ∷ v) = let e = length_decoded v in omega arith
+bits_four : (t : Text) (v : ℕ) → 8 ≤ length t → bits_from v (decoded t) ≡ bits_from (four_more t v) (decoded (drop 8 t))
+unfolding decoded bits_from four_more byte_at
+bits_four [] v h = absurd (omega (arith, h))
+bits_four (a ∷ []) v h = absurd (omega (arith, h))
+bits_four (a ∷ b ∷ []) v h = absurd (omega (arith, h))
+bits_four (a ∷ b ∷ c ∷ []) v h = absurd (omega (arith, h))
+bits_four (a ∷ b ∷ c ∷ d ∷ []) v h = absurd (omega (arith, h))
+bits_four (a ∷ b ∷ c ∷ d ∷ e ∷ []) v h = absurd (omega (arith, h))
+bits_four (a ∷ b ∷ c ∷ d ∷ e ∷ f ∷ []) v h = absurd (omega (arith, h))
+bits_four (a ∷ b ∷ c ∷ d ∷ e ∷ f ∷ g ∷ []) v h = absurd (omega (arith, h))
+bits_four (a ∷ b ∷ c ∷ d ∷ e ∷ f ∷ g ∷ i ∷ l) v h = refl
 
-module _ (s : List ℕ) (start end : ℕ) (o : start ≤ end) (h : end ≤ length s) where
-  pub decoded_long : length (decoded (run s start (end - start))) ≡ (end - start) / 2
-  decoded_long = length_decoded (run s start (end - start)) ∙ ap (λ (n : ℕ). n / 2) (length_run s start (end - start) (omega arith))
-
-  pub float_long : ((end - start) / 2 ≡ 8 → ⊥) → false ≡ is_float (decoded (run s start (end - start)))
-  unfolding is_float
-  float_long n = rw (ne_eqb (length (decoded (run s start (end - start)))) 8 (λ e. n (sym decoded_long ∙ e)))
-
-  four : (at : ℕ) → at + 8 ≤ end → decoded (run s at (end - at))
-      ≡ byte_at s at ∷ byte_at s (at + 2) ∷ byte_at s (at + 4) ∷ byte_at s (at + 6) ∷ decoded (run s (at + 8) (end - (at + 8)))
-  four at k =
-      let a = decoded_cons s at end (omega arith) h in
-      let b = decoded_cons s (at + 2) end (omega arith) h in
-      let c = decoded_cons s (at + 4) end (omega arith) h in
-      let d = decoded_cons s (at + 6) end (omega arith) h in
-      let p : at + 2 + 2 ≡ at + 4 = omega arith in
-      let q : at + 4 + 2 ≡ at + 6 = omega arith in
-      let r : at + 6 + 2 ≡ at + 8 = omega arith in
-      a ∙ ap (λ (l : Text). byte_at s at ∷ l) (rw p at b ∙ ap (λ (l : Text). byte_at s (at + 2) ∷ l) (rw q at c ∙ ap (λ (l : Text). byte_at s (at + 4) ∷ l) (rw r at d)))
-
-  bits_four : (at v : ℕ) → at + 8 ≤ end → bits_from v (decoded (run s at (end - at))) ≡ bits_from (four_more s at v) (decoded (run s (at + 8) (end - (at + 8))))
-  unfolding bits_from four_more
-  bits_four at v k = ap (bits_from v) (four at k)
-
-  pub float_bits_lem : (end - start) / 2 ≡ 8 → (high bits : ℕ) → high ≡ four_more s start 0 → bits ≡ four_more s (start + 8) high
-      → leb bits 9218868437227405312 ≡ is_float (decoded (run s start (end - start)))
-  unfolding is_float bits_from
-  float_bits_lem e high bits f g =
-      let a = bits_four start 0 (omega arith) in
-      let b = bits_four (start + 8) (four_more s start 0) (omega arith) in
-      let n = decoded_none s (start + 8 + 8) end (omega arith) h (omega arith) in
-      let z : bits ≡ bits_from 0 (decoded (run s start (end - start))) =
-      g ∙ ap (four_more s (start + 8)) f ∙ sym (a ∙ b ∙ ap (bits_from (four_more s (start + 8) (four_more s start 0))) n ∙ done (four_more s (start + 8) (four_more s start 0))) in
-      rw (eq-eqb (length (decoded (run s start (end - start)))) 8 (decoded_long ∙ e), ← z)
-    where
-      done : (v : ℕ) → bits_from v [] ≡ v
-      done v = refl
+pub float_bits_lem : (t : Text) → length t / 2 ≡ 8 → (high bits : ℕ) → high ≡ four_more t 0 → bits ≡ four_more (take (length t - 8) (drop 8 t)) high
+    → leb bits 9218868437227405312 ≡ is_float (decoded t)
+unfolding is_float bits_from
+float_bits_lem t e high bits f g =
+    let whole = bits_four t 0 (omega arith) ∙ bits_four (drop 8 t) (four_more t 0) (omega (arith, length-drop 8 t)) in
+    let none_left = decoded_short (drop 8 (drop 8 t)) (omega (arith, length-drop 8 (drop 8 t), length-drop 8 t)) in
+    let z : bits ≡ bits_from 0 (decoded t) = rw (slice_from t 8 (omega arith), f) at g ∙ sym (whole ∙ rw none_left (done (four_more (drop 8 t) (four_more t 0)))) in
+    rw (eq-eqb (length (decoded t)) 8 (length_decoded t ∙ e), ← z)
+  where
+    done : (v : ℕ) → bits_from v [] ≡ v
+    done v = refl
 
 -- ---- the rule of a kind
 module _ (t : Text) (flag : ℕ) where
@@ -315,53 +415,35 @@ module _ (t : Text) (flag : ℕ) where
   unfolding text_fits
   fits_no_name x e f r q = rw (e, ne_eqb flag 1 f) q
 
--- ---- the verdict on a text
-pub text_by : (x y : TextRule) (flag : ℕ) (t : Text) → x ≡ y → (r : Bool) → r ≡ text_fits x flag t → r ≡ text_fits y flag t
-text_by x y flag t e r q = q ∙ ap (λ (z : TextRule). text_fits z flag t) e
-
-module _ (v : Text) (test : Text → Bool) (x : Bool) (e : x ≡ is_there (hex v)) where
-  pub text_malformed : x ≡ false → none ≡ map test (hex v)
-  text_malformed q = go (hex v) (sym e ∙ q)
-    where
-      go : (o : Option Text) → is_there o ≡ false → none ≡ map test o
-      go none f = refl
-      go (some t) f = cc
-
-  pub text_judged : x ≡ true → (y z : Bool) → y ≡ test (decoded v) → y ≡ z → some z ≡ map test (hex v)
-  text_judged q y z f g = let a = hex_decoded v (sym e ∙ q) in rw a (ap some (sym g ∙ f))
-
--- ---- the loop that writes the bytes
-get_d_decoded : (s : List ℕ) (end k start : ℕ) → start + 2 * k + 1 < end → end ≤ length s → get_or (decoded (run s start (end - start))) k 0 ≡ byte_at s (start + 2 * k)
-get_d_decoded s end zero start l h =
-    let a : start + 2 * 0 ≡ start = omega arith in
-    rw (decoded_cons s start end (omega arith) h, a)
-get_d_decoded s end (suc k) start l h =
-    let a : start + 2 * suc k ≡ start + 2 + 2 * k = omega arith in
-    rw (decoded_cons s start end (omega arith) h, a) (get_d_decoded s end k (start + 2) (omega arith) h)
-
-pub record Written (s : List ℕ) (start end : ℕ) (d₀ : List ℕ) (at : ℕ) (d : List ℕ) (i : ℕ) : Type 0 where
-  pub within : i ≤ (end - start) / 2
+-- ---- the loop that writes the bytes: some are written, and those of what is left of the text are to come
+pub record Written (d₀ : List ℕ) (at : ℕ) (text : Text) (d : List ℕ) (next : ℕ) (left : Text) : Type 0 where
+  pub done : Text
   pub long : length d ≡ length d₀
-  pub same : d ≡ splice d₀ at (take i (decoded (run s start (end - start))))
+  pub here : next ≡ at + length done
+  pub same : d ≡ splice d₀ at done
+  pub rest : decoded text ≡ done ++ decoded left
 
-pub written_none : (s : List ℕ) (start end : ℕ) (d : List ℕ) (at : ℕ) → Written s start end d at d 0
+pub written_none : (d : List ℕ) (at : ℕ) (text : Text) → Written d at text d at text
 unfolding splice
-written_none s start end d at = record { within = omega arith; long = refl; same = refl }
+written_none d at text = record { done = []; long = refl; here = omega arith; same = refl; rest = refl }
 
-module _ (s : List ℕ) (start end : ℕ) (o : start ≤ end) (h : end ≤ length s) (d₀ : List ℕ) (at : ℕ) (d : List ℕ) (i : ℕ) (w : Written s start end d₀ at d i) where
-  pub written_more : i < (end - start) / 2 → (b : ℕ) → b ≡ byte_at s (start + 2 * i) → Written s start end d₀ at (set d (at + i) b) (i + 1)
-  written_more k b e =
-      let l = decoded_long s start end o h in
-      let t = take-suc (decoded (run s start (end - start))) i 0 (omega arith) in
-      let n = length-take-le i (decoded (run s start (end - start))) (omega arith) in
-      let g = get_d_decoded s end i start (omega arith) h in
-      record {
-        within = omega arith;
-        long = length-set d (at + i) b ∙ w.long;
-        same = rw (w.same, add-one i, t, g, e) (rw n at (splice_after d₀ at (take i (decoded (run s start (end - start)))) (byte_at s (start + 2 * i))));
-      }
+module _ {d₀ : List ℕ} {at : ℕ} {text : Text} {d : List ℕ} {next : ℕ} {left : Text} (w : Written d₀ at text d next left) where
+  module _ (h : 2 ≤ length left) where
+    pub written_room : at + length text / 2 ≤ length d₀ → next < length d
+    written_room k =
+        let e = ap length w.rest ∙ length-append w.done (decoded left) in
+        let f = ap length (decoded_front left h) in
+        omega (arith, e, f, w.here, w.long, length_decoded text)
 
-  pub written_all : (end - start) / 2 ≤ i → d ≡ splice d₀ at (decoded (run s start (end - start)))
-  written_all k =
-      let l = decoded_long s start end o h in
-      w.same ∙ ap (splice d₀ at) (take_all i (decoded (run s start (end - start))) (omega arith))
+    pub written_more : (b : ℕ) → b ≡ 16 * digit_of (get_or left 0 0) + digit_of (get_or left 1 0)
+        → Written d₀ at text (set d next b) (next + 1) (take (length left - 2) (drop 2 left))
+    written_more b e = record {
+      done = w.done ++ (b ∷ []);
+      long = length-set d next b ∙ w.long;
+      here = omega (arith, w.here, length-append w.done (b ∷ []));
+      same = rw (w.same, w.here) (splice_after d₀ at w.done b);
+      rest = w.rest ∙ rw (decoded_front left h, ← e) (sym (append_assoc w.done (b ∷ []) (decoded (take (length left - 2) (drop 2 left)))));
+    }
+
+  pub written_all : length left < 2 → d ≡ splice d₀ at (decoded text)
+  written_all h = w.same ∙ ap (splice d₀ at) (sym (w.rest ∙ rw (decoded_short left h) (append-nil w.done)))

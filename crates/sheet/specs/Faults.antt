@@ -1,7 +1,7 @@
 -- The code's faults are those of the definitions.
 use Rattle.spec.specs.Sheet as spec
-use Rattle.sheet.specs.declared.position.Fault.{Fault}
-use Rattle.sheet.specs.declared.position.Fault.TheVariants.{Malformed, WrongCount, WrongKind, WrongRange, WrongFlag, WrongKid, WrongText}
+use Rattle.sheet.specs.declared.faults.Fault.{Fault}
+use Rattle.sheet.specs.declared.faults.Fault.TheVariants.{Malformed, WrongCount, WrongKind, WrongRange, WrongFlag, WrongKid, WrongText}
 
 abbrev pub fault_of : Fault → spec.Fault
 fault_of Malformed = spec.malformed

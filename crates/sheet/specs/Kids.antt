@@ -1,71 +1,53 @@
 -- What the answers about kids say.
-use Rattle.std.specs.Prelude.{Bool, false, ◌&&◌, ◌≡◌, List, [], ◌∷◌, map, ℕ, ◌+◌, ◌-◌, ◌≤◌, ◌<◌, min, eqb, ltb, if◌then◌else◌}
-use Rattle.std.proofs.Math.Option
-use Rattle.std.proofs.Math.Option.{Option, none, some}
-use Rattle.words.specs.Runs.{run}
+use Rattle.std.proofs.Math.Option as math
+use Rattle.std.specs.Borrow.{Bor}
+use Rattle.std.specs.Prelude.{Option, Some, None, Result, Ok, Err, ◌≡◌, Bool, true, ltb, List, [], ◌∷◌, map, ℕ, ◌-◌, ◌<◌, min, length, drop}
 use Rattle.spec.specs.Basics.{Text, NodeId, maybe}
-use Rattle.spec.specs.Sheet.{cut_at_commas, kid_list, all_below}
-use Rattle.sheet.specs.Verdicts.{verdict_of}
-use Rattle.sheet.specs.declared.kids.Kid.{Kid}
-use Rattle.sheet.specs.declared.kids.Kid.TheVariants as kid
-use Rattle.sheet.specs.declared.kids.KidStep.{KidStep}
-use Rattle.sheet.specs.declared.kids.KidStep.TheVariants as step
-use Rattle.sheet.specs.declared.kids.KidsLeft.{KidsLeft}
-use Rattle.sheet.specs.declared.kids.KidsLeft.TheVariants as to
-
--- the parts after one that ends at a place
-unfoldable pub parts_after : List ℕ → ℕ → ℕ → List Text
-parts_after s part end = if ltb part end then cut_at_commas (run s (part + 1) (end - (part + 1))) else []
-
--- the first part of the bytes from start to end is that up to a place
-pub record PartEnd (s : List ℕ) (start end part : ℕ) : Type 0 where
-  pub low : start ≤ part
-  pub high : part ≤ end
-  pub same : cut_at_commas (run s start (end - start)) ≡ run s start (part - start) ∷ parts_after s part end
-
-unfoldable pub is_dash : Text → Bool
-is_dash [] = false
-is_dash (c ∷ []) = eqb c 45
-is_dash (c ∷ d ∷ ds) = false
+use Rattle.spec.specs.Sheet.{kid_list}
+use Rattle.sheet.specs.declared.faults.Malformed.{Malformed}
 
 -- a number of more than 32 bits is told as the largest one; a list that was judged right has none
-abbrev pub short_kid : Option NodeId → Option NodeId
-short_kid none = none
-short_kid (some k) = some (min k 4294967295)
+abbrev pub short_kid : math.Option NodeId → math.Option NodeId
+short_kid math.none = math.none
+short_kid (math.some k) = math.some (min k 4294967295)
 
-unfoldable pub short_kids : Text → Option (List (Option NodeId))
-short_kids v = Option.map (map short_kid) (kid_list v)
+unfoldable pub short_kids : Text → math.Option (List (math.Option NodeId))
+short_kids v = math.map (map short_kid) (kid_list v)
 
-abbrev pub got_kid : Kid → Option (Option NodeId)
-got_kid kid.Absent = some none
-got_kid (kid.Number n) = some (some n)
-got_kid kid.Malformed = none
+abbrev pub kid_of : Option ℕ → math.Option NodeId
+kid_of (Some n) = math.some n
+kid_of None = math.none
 
--- the kid that was read, before those from the next place on
-abbrev pub kids_from : List ℕ → ℕ → KidStep → Option (List (Option NodeId))
-kids_from s end step.End = some []
-kids_from s end (step.Absent next) = Option.map (λ ks. none ∷ ks) (short_kids (run s next (end - next)))
-kids_from s end (step.Number n next) = Option.map (λ ks. some n ∷ ks) (short_kids (run s next (end - next)))
-kids_from s end step.Malformed = none
+abbrev pub got_kid : Result (Option ℕ) Malformed → math.Option (math.Option NodeId)
+got_kid (Ok k) = math.some (kid_of k)
+got_kid (Err e) = math.none
 
-abbrev pub StepInside : KidStep → ℕ → ℕ → Type 0
-StepInside step.End at end = Unit
-StepInside (step.Absent next) at end = (at < next) × (next ≤ end)
-StepInside (step.Number n next) at end = (at < next) × (next ≤ end)
-StepInside step.Malformed at end = Unit
+-- the kid that was read, before those of the list after it
+abbrev pub kids_from : Result (Option (Option ℕ × Bor (List ℕ))) Malformed → math.Option (List (math.Option NodeId))
+kids_from (Ok None) = math.some []
+kids_from (Ok (Some p)) = math.map (λ ks. kid_of p.0 ∷ ks) (short_kids p.1.now)
+kids_from (Err e) = math.none
 
--- what is left to judge: whether all are below, if all before were
-unfoldable pub left : List ℕ → ℕ → ℕ → ℕ → Bool → Option Bool
-left s at end nodes low = Option.map (λ b. low && b) (Option.map (all_below nodes) (kid_list (run s at (end - at))))
+-- a list that is another one from some place on
+pub record Rest (kids rest : List ℕ) : Type 0 where
+  pub less : length rest < length kids
+  pub same : rest ≡ drop (length kids - length rest) kids
 
-abbrev pub left_of : List ℕ → ℕ → ℕ → KidsLeft → Option Bool
-left_of s end nodes (to.Told v) = verdict_of v
-left_of s end nodes (to.More next low) = left s next end nodes low
+abbrev pub RestInside : List ℕ → Result (Option (Option ℕ × Bor (List ℕ))) Malformed → Type 0
+RestInside kids (Ok None) = Unit
+RestInside kids (Ok (Some p)) = Rest kids p.1.now
+RestInside kids (Err e) = Unit
 
-abbrev pub LeftInside : KidsLeft → ℕ → ℕ → Type 0
-LeftInside (to.Told v) at end = Unit
-LeftInside (to.More next low) at end = (at < next) × (next ≤ end)
+-- what follows the first part of a list, from that part's end on: all after the comma, which is something
+abbrev pub AfterPart : List ℕ → Result (Bor (List ℕ)) Malformed → Type 0
+AfterPart from (Ok rest) = (length from ≡ 1 → ⊥) × (rest.now ≡ drop 1 from)
+AfterPart from (Err e) = length from ≡ 1
+
+-- whether a kid is absent, or its number below that of the nodes
+abbrev pub below : math.Option NodeId → ℕ → Bool
+below math.none nodes = true
+below (math.some n) nodes = ltb n nodes
 
 -- the kids that a judged list stands for
-abbrev pub kids_of : Text → List (Option NodeId)
+abbrev pub kids_of : Text → List (math.Option NodeId)
 kids_of v = maybe (kid_list v) [] (λ ks. ks)

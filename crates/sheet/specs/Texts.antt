@@ -1,11 +1,14 @@
 -- Hex as the code reads it: each two digits are a byte, and a digit that is none counts as 0. Where a text is hex, this
 -- gives the bytes that `hex` does (proofs/TextLaws.antt, `hex_decoded`, `text_agree`).
-use Rattle.std.specs.Prelude.{Bool, true, false, List, [], ◌∷◌, ℕ, ◌+◌, ◌*◌, get_or}
-use Rattle.std.proofs.Math.Option.{Option}
+use Rattle.std.proofs.Math.Option as math
+use Rattle.std.specs.Prelude.{Option, Some, None, Bool, true, false, List, [], ◌∷◌, ℕ, ◌+◌, ◌*◌, get_or}
 use Rattle.spec.specs.Basics.{Text, maybe}
-use Rattle.spec.specs.Sheet.{hex_digit}
+use Rattle.spec.specs.Sheet.{Got, got, bad, malformed, hex_digit, hex}
+use Rattle.sheet.specs.Lines.{span_of}
+use Rattle.sheet.specs.Verdicts.{Formed}
+use Rattle.sheet.specs.declared.position.Span.{Span}
 
-abbrev pub is_there : {A : Type 0} → Option A → Bool
+abbrev pub is_there : {A : Type 0} → math.Option A → Bool
 is_there o = maybe o false (λ a. true)
 
 unfoldable pub is_hex : ℕ → Bool
@@ -22,6 +25,15 @@ decoded [] = []
 decoded (a ∷ []) = []
 decoded (a ∷ b ∷ l) = (16 * digit_of a + digit_of b) ∷ decoded l
 
--- four bytes read on from a value, highest first
-unfoldable pub four_more : List ℕ → ℕ → ℕ → ℕ
-four_more s at v = 256 * (256 * (256 * (256 * v + byte_at s at) + byte_at s (at + 2)) + byte_at s (at + 4)) + byte_at s (at + 6)
+-- the first four bytes of a text read on from a value, highest first
+unfoldable pub four_more : Text → ℕ → ℕ
+four_more t v = 256 * (256 * (256 * (256 * v + byte_at t 0) + byte_at t 2) + byte_at t 4) + byte_at t 6
+
+-- a text whose kind is not asked for
+abbrev pub got_text : List ℕ → ℕ → Option Span → Got Text
+got_text s at (Some v) = got (decoded (span_of s v)) (v.end + 1)
+got_text s at None = bad malformed at
+
+abbrev pub TextInside : List ℕ → Option Span → Type 0
+TextInside s (Some v) = Formed hex decoded (λ t. true) s v
+TextInside s None = Unit

@@ -1,60 +1,40 @@
 // Decimal numbers of any length, without leading zeros. What is past 4,294,967,295 no longer counts:
 // the value stays at 4,294,967,296, so that it never wraps.
-ghost use Rattle.std.specs.Prelude.{◌≡◌, ◌+◌, ◌-◌, ◌*◌, ◌≤◌, length};
+ghost use Rattle.std.specs.Prelude.{◌≡◌, ◌+◌, ◌-◌, ◌*◌, ◌≤◌};
 ghost use Rattle.std.proofs.Math.Option.{map};
-ghost use Rattle.words.specs.Runs.{run};
 ghost use Rattle.spec.specs.Sheet.{decimal};
 ghost use Rattle.sheet.specs.Decimals.{capped, capped_from, got_decimal};
-
-#[derive(Clone, Copy)]
-pub enum Spelled {
-    Number(u64),
-    Malformed,
-}
 
 // One digit more.
 fn with_digit(value: u64, c: u8) -> u64
     requires { (value ≤ 4294967296) × (48 ≤ c) × (c ≤ 57) }
     ensures { result ≡ capped (10 * value + (c - 48)) }
 {
-    let more = 10 * value + ((c - 48) as u64);
-    if more < 4294967296 { more } else { 4294967296 }
+    let more = 10 * value + u64::from(c - b'0');
+    more.min(4294967296)
 }
 
-// The digits of a span, whatever the first one is.
-fn digits(s: &[u8], start: usize, end: usize) -> Spelled
-    requires { (start ≤ end) × (end ≤ length s.now) }
-    ensures { got_decimal result ≡ capped_from 0 (run s.now start (end - start)) }
+// The digits of a text, whatever the first one is.
+fn digits(text: &[u8]) -> Option<u64>
+    ensures { got_decimal result ≡ capped_from 0 text.now }
 {
     let mut value: u64 = 0;
-    let mut i = start;
-    while i < end {
-        let c = s[i];
-        if c < 48 {
-            return Spelled::Malformed;
+    for c in text {
+        if !c.is_ascii_digit() {
+            return None;
         }
-        if 57 < c {
-            return Spelled::Malformed;
-        }
-        value = with_digit(value, c);
-        i += 1;
+        value = with_digit(value, *c);
     }
-    Spelled::Number(value)
+    Some(value)
 }
 
-// The number that a span spells.
-pub fn decimal(s: &[u8], start: usize, end: usize) -> Spelled
-    requires { (start ≤ end) × (end ≤ length s.now) }
-    ensures { got_decimal result ≡ map capped (decimal (run s.now start (end - start))) }
+// The number that a text spells.
+pub fn decimal(text: &[u8]) -> Option<u64>
+    ensures { got_decimal result ≡ map capped (decimal text.now) }
 {
-    if start == end {
-        return Spelled::Malformed;
+    let (first, rest) = text.split_first()?;
+    if *first == b'0' && !rest.is_empty() {
+        return None;
     }
-    if s[start] == 48 {
-        if end - start == 1 {
-            return Spelled::Number(0);
-        }
-        return Spelled::Malformed;
-    }
-    digits(s, start, end)
+    digits(text)
 }

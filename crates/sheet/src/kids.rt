@@ -1,175 +1,117 @@
 // A list of kids: node numbers with commas between them, `-` for an absent one. The form of the whole
 // list is judged before any number (2 before 3).
-ghost use Rattle.std.specs.Prelude.{◌≡◌, true, ◌+◌, ◌-◌, ◌≤◌, ◌<◌, min, length};
+ghost use Rattle.std.specs.Prelude.{◌≡◌, ◌==◌, ◌≤◌, min, length, position};
+ghost use Rattle.std.specs.List.{position_or_len};
 ghost use Rattle.std.proofs.Math.Option.{map};
-ghost use Rattle.words.specs.Runs.{run};
 ghost use Rattle.spec.specs.Sheet.{kid, kid_list, all_below, wrong_kid, field};
-ghost use Rattle.sheet.specs.Kids.{PartEnd, is_dash, short_kid, got_kid, short_kids, kids_from, StepInside, left, left_of, LeftInside, kids_of};
+ghost use Rattle.sheet.specs.Kids.{short_kid, got_kid, short_kids, kid_of, kids_from, RestInside, AfterPart, below, kids_of};
 ghost use Rattle.sheet.specs.Verdicts.{verdict_of, got_span, FormedIn};
 
-use crate::decimals::{Spelled, decimal};
-use crate::lines::LineRead;
-use crate::position::{Fault, Position};
-use crate::verdicts::{SpanRead, Verdict, told};
+use crate::decimals::decimal;
+use crate::faults::{Fault, Malformed, Refused};
+use crate::position::{Position, Span};
 
-#[derive(Clone, Copy)]
-enum Kid {
-    Absent,
-    Number(u32),
-    Malformed,
-}
-
-// A kid, and the place of the next one.
-#[derive(Clone, Copy)]
-pub enum KidStep {
-    End,
-    Absent(usize),
-    Number(u32, usize),
-    Malformed,
-}
-
-// A verdict, or the place of the next kid and whether all so far were below the limit.
-#[derive(Clone, Copy)]
-enum KidsLeft {
-    Told(Verdict),
-    More(usize, bool),
-}
-
-// The end of the part at `start`: its comma, or the list's end.
-fn part_end(s: &[u8], start: usize, end: usize) -> usize
-    requires { (start ≤ end) × (end ≤ length s.now) }
-    ensures { PartEnd s.now start end result }
+fn first_comma(kids: &[u8]) -> Option<usize>
+    ensures { result ≡ position (λ b. b == 44) kids.now }
 {
-    let mut i = start;
-    while i < end {
-        if s[i] == 44 {
-            return i;
-        }
-        i += 1;
-    }
-    i
+    kids.iter().position(|b| *b == b',')
 }
 
-fn is_dash(s: &[u8], start: usize, end: usize) -> bool
-    requires { (start ≤ end) × (end ≤ length s.now) }
-    ensures { result ≡ is_dash (run s.now start (end - start)) }
+// The end of the first part of a list: its comma, or the list's end.
+fn part_end(kids: &[u8]) -> usize
+    ensures { result ≡ position_or_len (λ b. b == 44) kids.now }
 {
-    if end - start != 1 {
-        return false;
-    }
-    s[start] == 45
+    first_comma(kids).unwrap_or(kids.len())
 }
 
 // No kid has a number of more than 32 bits: such a one is told as the largest.
 fn shortened(n: u64) -> u32
     ensures { result ≡ min n 4294967295 }
 {
-    if n < 4294967295 { n as u32 } else { 4294967295 }
+    u32::try_from(n).unwrap_or(u32::MAX)
 }
 
-fn kid_in(s: &[u8], start: usize, end: usize) -> Kid
-    requires { (start ≤ end) × (end ≤ length s.now) }
-    ensures { got_kid result ≡ map short_kid (kid (run s.now start (end - start))) }
+fn kid_in(part: &[u8]) -> Result<Option<u32>, Malformed>
+    ensures { got_kid result ≡ map short_kid (kid part.now) }
 {
-    if is_dash(s, start, end) {
-        return Kid::Absent;
+    if part == b"-".as_slice() {
+        return Ok(None);
     }
-    match decimal(s, start, end) {
-        Spelled::Malformed => Kid::Malformed,
-        Spelled::Number(n) => Kid::Number(shortened(n)),
-    }
+    let n = decimal(part).ok_or(Malformed)?;
+    Ok(Some(shortened(n)))
 }
 
-// Where the next part starts, after one that ends at `at`.
-fn past(at: usize, end: usize) -> usize
-    requires { at ≤ end }
-    ensures { result ≡ min (at + 1) end }
+// The list after a first part, from that part's end on: what its comma separates is not nothing.
+fn after_part<'a>(from: &'a [u8]) -> Result<&'a [u8], Malformed>
+    ensures { AfterPart from.now result }
 {
-    if at < end { at + 1 } else { end }
-}
-
-// The kid at `at` of a list that ends at `end`. A list that was judged right is walked through from
-// its start to `End`, and never gives `Malformed`.
-pub fn next_kid(s: &[u8], at: usize, end: usize) -> KidStep
-    requires { (at ≤ end) × (end ≤ length s.now) }
-    ensures result_value { kids_from s.now end result ≡ short_kids (run s.now at (end - at)) }
-    ensures step_inside { StepInside result at end }
-{
-    if at == end {
-        return KidStep::End;
-    }
-    let part = part_end(s, at, end);
-    if end - part == 1 {
-        return KidStep::Malformed;
-    }
-    let next = past(part, end);
-    match kid_in(s, at, part) {
-        Kid::Malformed => KidStep::Malformed,
-        Kid::Absent => KidStep::Absent(next),
-        Kid::Number(n) => KidStep::Number(n, next),
+    match from {
+        [] => Ok(from),
+        [_] => Err(Malformed),
+        [_, rest @ ..] => Ok(rest),
     }
 }
 
-// One kid more; `low` says that all before it were below the limit.
-fn judge_kid(s: &[u8], at: usize, end: usize, nodes: u32, low: bool) -> KidsLeft
-    requires { (at ≤ end) × (end ≤ length s.now) }
-    ensures result_value { left_of s.now end nodes result ≡ left s.now at end nodes low }
-    ensures left_inside { LeftInside result at end }
+// The first kid of a list, and the list after it; none where the list is empty. A list that was judged right is gone
+// through to its end, and never gives `Malformed`.
+pub fn next_kid<'a>(kids: &'a [u8]) -> Result<Option<(Option<u32>, &'a [u8])>, Malformed>
+    ensures result_value { kids_from result ≡ short_kids kids.now }
+    ensures rest_inside { RestInside kids.now result }
 {
-    match next_kid(s, at, end) {
-        KidStep::Malformed => KidsLeft::Told(Verdict::Malformed),
-        KidStep::End => {
-            if low {
-                return KidsLeft::Told(Verdict::Right);
-            }
-            KidsLeft::Told(Verdict::Wrong)
-        }
-        KidStep::Absent(next) => KidsLeft::More(next, low),
-        KidStep::Number(n, next) => {
-            if n < nodes {
-                return KidsLeft::More(next, low);
-            }
-            KidsLeft::More(next, false)
-        }
+    if kids.is_empty() {
+        return Ok(None);
+    }
+    let (part, from) = kids.split_at(part_end(kids));
+    let rest = after_part(from)?;
+    let kid = kid_in(part)?;
+    Ok(Some((kid, rest)))
+}
+
+// A number has to be below `nodes`; an absent kid has none.
+fn is_below(kid: Option<u32>, nodes: u32) -> bool
+    ensures { result ≡ below (kid_of kid) nodes }
+{
+    match kid {
+        Some(n) => n < nodes,
+        None => true,
     }
 }
 
 // The whole list: its form, and whether all its numbers are below `nodes`.
-fn judge_kids(s: &[u8], start: usize, end: usize, nodes: u32) -> Verdict
-    requires { (start ≤ end) × (end ≤ length s.now) }
-    ensures { verdict_of result ≡ map (all_below nodes) (kid_list (run s.now start (end - start))) }
+fn judge_kids(kids: &[u8], nodes: u32) -> Result<bool, Malformed>
+    ensures { verdict_of result ≡ map (all_below nodes) (kid_list kids.now) }
 {
-    let mut at = start;
     let mut low = true;
-    loop {
-        match judge_kid(s, at, end, nodes, low) {
-            KidsLeft::Told(verdict) => {
-                return verdict;
-            }
-            KidsLeft::More(next, still) => {
-                at = next;
-                low = still;
-            }
+    let mut left = kids;
+    while let Some((kid, rest)) = next_kid(left)? {
+        if !is_below(kid, nodes) {
+            low = false;
         }
+        left = rest;
     }
+    Ok(low)
 }
 
 impl Position {
     // The list of kids here, each below `nodes`.
-    pub fn kids(self, s: &[u8], nodes: u32) -> SpanRead
+    pub fn kids(self, s: &[u8], nodes: u32) -> Result<Span, Refused>
         requires { self.at ≤ length s.now }
         ensures result_value { got_span kids_of s.now result ≡ field "kids=" kid_list wrong_kid (all_below nodes) s.now self.at }
         ensures formed_in { FormedIn kid_list kids_of (all_below nodes) s.now result }
     {
         let at = self.at;
-        match self.line(s, b"kids=") {
-            LineRead::Malformed => SpanRead::Bad(Fault::Malformed, at),
-            LineRead::Value(v) => {
-                let start = v.start;
-                let end = v.end;
-                let verdict = judge_kids(s, start, end, nodes);
-                told(at, v, verdict, Fault::WrongKid)
-            }
+        let malformed = Refused {
+            why: Fault::Malformed,
+            at,
+        };
+        let list = self.line(s, b"kids=").ok_or(malformed)?;
+        match judge_kids(list.of(s), nodes) {
+            Ok(true) => Ok(list),
+            Ok(false) => Err(Refused {
+                why: Fault::WrongKid,
+                at,
+            }),
+            Err(Malformed) => Err(malformed),
         }
     }
 }

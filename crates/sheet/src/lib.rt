@@ -9,6 +9,7 @@
 #![tactic(auto)]
 
 mod decimals;
+mod faults;
 mod kids;
 mod kinds;
 mod lines;
@@ -17,14 +18,11 @@ mod numbers;
 mod position;
 mod sheets;
 mod texts;
-mod verdicts;
 
-pub use kids::{KidStep, next_kid};
+pub use faults::{Fault, Malformed, Refused, SheetRefused};
+pub use kids::next_kid;
 pub use kinds::{TextRule, flags, text_rule};
-pub use lines::LineRead;
-pub use nodes::{Node, NodeRead};
-pub use numbers::NumberRead;
-pub use position::{Fault, Position, Span};
-pub use sheets::{SheetRead, read_sheet};
+pub use nodes::Node;
+pub use position::{Position, Span};
+pub use sheets::read_sheet;
 pub use texts::decode_text;
-pub use verdicts::SpanRead;

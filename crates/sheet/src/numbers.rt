@@ -4,41 +4,33 @@ ghost use Rattle.sheet.specs.Keyed.{number_of};
 ghost use Rattle.sheet.specs.Faults.{fault_of};
 ghost use Rattle.sheet.specs.Numbers.{got_number};
 
-use crate::decimals::{Spelled, decimal};
-use crate::lines::LineRead;
-use crate::position::{Fault, Position};
-
-#[derive(Clone, Copy)]
-pub enum NumberRead {
-    Value(u32, Position),
-    Bad(Fault, usize),
-}
+use crate::decimals::decimal;
+use crate::faults::{Fault, Refused};
+use crate::position::Position;
 
 impl Position {
-    // A number from lo to hi; `why` says what is wrong with one outside.
-    pub fn number(self, s: &[u8], key: &[u8], why: Fault, lo: u32, hi: u32) -> NumberRead
+    // A number from lo to hi, and the next line; `why` says what is wrong with one outside.
+    pub fn number(
+        self,
+        s: &[u8],
+        key: &[u8],
+        why: Fault,
+        lo: u32,
+        hi: u32,
+    ) -> Result<(u32, Position), Refused>
         requires { self.at ≤ length s.now }
         ensures { got_number result ≡ number_of key.now (fault_of why) lo hi s.now self.at }
     {
         let at = self.at;
-        match self.line(s, key) {
-            LineRead::Malformed => NumberRead::Bad(Fault::Malformed, at),
-            LineRead::Value(v) => {
-                let start = v.start;
-                let end = v.end;
-                match decimal(s, start, end) {
-                    Spelled::Malformed => NumberRead::Bad(Fault::Malformed, at),
-                    Spelled::Number(n) => {
-                        if n < lo as u64 {
-                            return NumberRead::Bad(why, at);
-                        }
-                        if (hi as u64) < n {
-                            return NumberRead::Bad(why, at);
-                        }
-                        NumberRead::Value(n as u32, v.after())
-                    }
-                }
-            }
+        let malformed = Refused {
+            why: Fault::Malformed,
+            at,
+        };
+        let value = self.line(s, key).ok_or(malformed)?;
+        let n = decimal(value.of(s)).ok_or(malformed)?;
+        if n < u64::from(lo) || u64::from(hi) < n {
+            return Err(Refused { why, at });
         }
+        Ok((n as u32, value.after()))
     }
 }

@@ -1,5 +1,6 @@
-// Where a reader stands, what it points at, and what is wrong with a line.
-ghost use Rattle.std.specs.Prelude.{◌≡◌, ◌+◌, ◌<◌};
+// Where a reader stands, and what it points at.
+ghost use Rattle.std.specs.Prelude.{◌≡◌, ◌+◌, ◌<◌, ◌≤◌, length};
+ghost use Rattle.sheet.specs.Lines.{span_of};
 
 // The place of the next line. A reader takes it and hands the next one back. None is put together outside of this
 // file: it is the first line's, or that of the line after a value that was read. So nobody has to know how a line ends
@@ -26,6 +27,15 @@ pub struct Span {
 }
 
 impl Span {
+    // Its bytes, in the sheet.
+    #[tactic(auto, unfolding(words::specs::Runs::run))]
+    pub fn of<'a>(self, s: &'a [u8]) -> &'a [u8]
+        requires { (self.start ≤ self.end) × (self.end ≤ length s.now) }
+        ensures { result.now ≡ span_of s.now self }
+    {
+        &s[self.start..self.end]
+    }
+
     // The line after the one whose value this span is: the byte 10 at the span's end is between them. A value that was
     // read ends inside its sheet, so below the greatest number that a place can be, and the sum never wraps.
     pub fn after(self) -> Position
@@ -34,17 +44,4 @@ impl Span {
     {
         Position { at: self.end + 1 }
     }
-}
-
-// A malformed line is refusal 2. A value that is wrong is 3, 31, 32 or 33, by what it is about (`refusal` in
-// sheets.rt).
-#[derive(Clone, Copy)]
-pub enum Fault {
-    Malformed,
-    WrongCount,
-    WrongKind,
-    WrongRange,
-    WrongFlag,
-    WrongKid,
-    WrongText,
 }

@@ -1,219 +1,169 @@
 // A text: lowercase hex, two digits a byte. The form of the whole text is judged before its kind's
 // rule (2 before 3). Below the form, a digit that is none counts as 0, so that no function here needs
 // a judged text to be safe.
-ghost use Rattle.std.specs.Prelude.{◌≡◌, ◌+◌, ◌-◌, ◌*◌, ◌/◌, ◌≤◌, ◌<◌, length};
-ghost use Rattle.std.proofs.Math.Option.{map};
-ghost use Rattle.words.specs.Runs.{run, splice};
+ghost use Rattle.std.specs.Prelude.{◌≡◌, ◌+◌, ◌*◌, ◌/◌, ◌≤◌, ◌<◌, true, not, length, position};
+ghost use Rattle.words.specs.Runs.{splice};
 ghost use Rattle.spec.specs.Kinds.{kind_of, digits};
-ghost use Rattle.spec.specs.Sheet.{hex, is_digit, all_digits, is_empty, is_float, text_fits, wrong_text, field};
+ghost use Rattle.spec.specs.Sheet.{hex, all_digits, is_empty, is_float, text_fits, wrong_text, field};
 ghost use Rattle.sheet.specs.Rules.{rule_of};
-ghost use Rattle.sheet.specs.Texts.{is_hex, digit_of, byte_at, is_there, decoded, four_more};
-ghost use Rattle.sheet.specs.Verdicts.{verdict_of, got_span, FormedIn};
+ghost use Rattle.sheet.specs.Texts.{is_hex, digit_of, decoded, four_more, got_text, TextInside};
+ghost use Rattle.sheet.specs.Verdicts.{got_span, FormedIn};
 
+use crate::faults::{Fault, Refused};
 use crate::kinds::{TextRule, text_rule};
-use crate::lines::LineRead;
-use crate::position::{Fault, Position};
-use crate::verdicts::{SpanRead, Verdict, told};
+use crate::position::{Position, Span};
 
 fn is_hex(c: u8) -> bool
     ensures { result ≡ is_hex c }
 {
-    if c < 48 {
-        return false;
-    }
-    if c <= 57 {
-        return true;
-    }
-    if c < 97 {
-        return false;
-    }
-    c <= 102
+    matches!(c, b'0'..=b'9' | b'a'..=b'f')
 }
 
 fn hex_digit(c: u8) -> u8
     ensures { (result ≡ digit_of c) × (result < 16) }
 {
-    if c < 48 {
-        return 0;
+    match c {
+        b'0'..=b'9' => c - b'0',
+        b'a'..=b'f' => 10 + (c - b'a'),
+        _ => 0,
     }
-    if c <= 57 {
-        return c - 48;
-    }
-    if c < 97 {
-        return 0;
-    }
-    if c <= 102 { c - 87 } else { 0 }
 }
 
-// The byte of the two digits at `at`.
-fn hex_byte(s: &[u8], at: usize) -> u8
-    requires { at + 1 < length s.now }
-    ensures { result ≡ byte_at s.now at }
+// The byte of two digits.
+fn hex_byte(high: u8, low: u8) -> u8
+    ensures { result ≡ 16 * digit_of high + digit_of low }
 {
-    16 * hex_digit(s[at]) + hex_digit(s[at + 1])
+    16 * hex_digit(high) + hex_digit(low)
 }
 
-// Whether a span is hex.
-fn is_hex_text(s: &[u8], start: usize, end: usize) -> bool
-    requires { (start ≤ end) × (end ≤ length s.now) }
-    ensures { result ≡ is_there (hex (run s.now start (end - start))) }
+// How many hex digits come before the first byte that is none.
+fn digits_end(rest: &[u8]) -> Option<usize>
+    ensures { result ≡ position (λ c. not (is_hex c)) rest.now }
 {
-    let mut i = start;
-    while i < end {
-        if end - i == 1 {
-            return false;
-        }
-        if !is_hex(s[i]) {
-            return false;
-        }
-        if !is_hex(s[i + 1]) {
-            return false;
-        }
-        i += 2;
-    }
-    true
+    rest.iter().position(|c| !is_hex(*c))
 }
 
 // Whether no byte is there: a digit alone is none.
-fn is_empty(s: &[u8], start: usize, end: usize) -> bool
-    requires { (start ≤ end) × (end ≤ length s.now) }
-    ensures { result ≡ is_empty (decoded (run s.now start (end - start))) }
+fn is_empty(text: &[u8]) -> bool
+    ensures { result ≡ is_empty (decoded text.now) }
 {
-    end - start < 2
-}
-
-fn is_digit(c: u8) -> bool
-    ensures { result ≡ is_digit c }
-{
-    if c < 48 {
-        return false;
-    }
-    c <= 57
+    text.len() < 2
 }
 
 // Whether all bytes are decimal digits.
-fn all_digits(s: &[u8], start: usize, end: usize) -> bool
-    requires { (start ≤ end) × (end ≤ length s.now) }
-    ensures { result ≡ all_digits (decoded (run s.now start (end - start))) }
+fn all_digits(text: &[u8]) -> bool
+    ensures { result ≡ all_digits (decoded text.now) }
 {
-    let mut i = start;
-    while 1 < end - i {
-        if !is_digit(hex_byte(s, i)) {
+    let mut left = text;
+    while let [high, low, rest @ ..] = left {
+        if !hex_byte(*high, *low).is_ascii_digit() {
             return false;
         }
-        i += 2;
+        left = rest;
     }
     true
 }
 
 // One byte or more, all of them digits.
-fn is_number(s: &[u8], start: usize, end: usize) -> bool
-    requires { (start ≤ end) × (end ≤ length s.now) }
-    ensures { result ≡ text_fits digits 0 (decoded (run s.now start (end - start))) }
+fn is_number(text: &[u8]) -> bool
+    ensures { result ≡ text_fits digits 0 (decoded text.now) }
 {
-    if is_empty(s, start, end) {
-        return false;
-    }
-    all_digits(s, start, end)
-}
-
-fn wide(b: u8) -> u64
-    ensures { (result ≡ b) × (result < 256) }
-{
-    b as u64
+    !is_empty(text) && all_digits(text)
 }
 
 // Four bytes more, highest first.
-fn four_more(s: &[u8], at: usize, value: u64) -> u64
-    requires { (at + 8 ≤ length s.now) × (value < 4294967296) }
-    ensures { (result ≡ four_more s.now at value) × (result < 4294967296 * value + 4294967296) }
+fn four_more(text: &[u8], value: u64) -> u64
+    requires { (8 ≤ length text.now) × (value < 4294967296) }
+    ensures { (result ≡ four_more text.now value) × (result < 4294967296 * value + 4294967296) }
 {
-    let a = 256 * value + wide(hex_byte(s, at));
-    let b = 256 * a + wide(hex_byte(s, at + 2));
-    let c = 256 * b + wide(hex_byte(s, at + 4));
-    256 * c + wide(hex_byte(s, at + 6))
+    let a = 256 * value + u64::from(hex_byte(text[0], text[1]));
+    let b = 256 * a + u64::from(hex_byte(text[2], text[3]));
+    let c = 256 * b + u64::from(hex_byte(text[4], text[5]));
+    256 * c + u64::from(hex_byte(text[6], text[7]))
 }
 
-// Eight bytes, their number at most 7ff0000000000000 hex.
-fn is_float(s: &[u8], start: usize, end: usize) -> bool
-    requires { (start ≤ end) × (end ≤ length s.now) }
-    ensures { result ≡ is_float (decoded (run s.now start (end - start))) }
+// Eight bytes, their number at most that of positive infinity.
+fn is_float(text: &[u8]) -> bool
+    ensures { result ≡ is_float (decoded text.now) }
 {
-    if (end - start) / 2 != 8 {
+    if text.len() / 2 != 8 {
         return false;
     }
-    let high = four_more(s, start, 0);
-    let bits = four_more(s, start + 8, high);
-    bits <= 9218868437227405312
+    let high = four_more(text, 0);
+    four_more(&text[8..], high) <= 0x7ff0_0000_0000_0000
 }
 
 // Whether a text fits its kind's rule.
-fn fits(s: &[u8], start: usize, end: usize, rule: TextRule, flag: u32) -> bool
-    requires { (start ≤ end) × (end ≤ length s.now) }
-    ensures { result ≡ text_fits (rule_of rule) flag (decoded (run s.now start (end - start))) }
+fn fits(text: &[u8], rule: TextRule, flag: u32) -> bool
+    ensures { result ≡ text_fits (rule_of rule) flag (decoded text.now) }
 {
     match rule {
-        TextRule::NoText => is_empty(s, start, end),
+        TextRule::NoText => is_empty(text),
         TextRule::AnyText => true,
-        TextRule::Digits => is_number(s, start, end),
+        TextRule::Digits => is_number(text),
         TextRule::Float => {
             if flag == 1 {
-                return is_float(s, start, end);
+                is_float(text)
+            } else {
+                is_empty(text)
             }
-            is_empty(s, start, end)
         }
-        TextRule::Named => {
-            if flag == 1 {
-                return true;
-            }
-            is_empty(s, start, end)
-        }
+        TextRule::Named => flag == 1 || is_empty(text),
     }
 }
 
-// The whole text of a node of a kind: its form, and whether it fits the kind's rule.
-fn judge_text(s: &[u8], start: usize, end: usize, kind: u32, flag: u32) -> Verdict
-    requires { (start ≤ end) × (end ≤ length s.now) }
-    ensures { verdict_of result ≡ map (text_fits (kind_of kind).text flag) (hex (run s.now start (end - start))) }
+// Writes the bytes that a text stands for into d from `at` on.
+pub fn decode_text(text: &[u8], d: &mut [u8], at: usize)
+    requires { at + length text.now / 2 ≤ length d.old }
+    ensures { d.new ≡ splice d.old at (decoded text.now) }
 {
-    if !is_hex_text(s, start, end) {
-        return Verdict::Malformed;
-    }
-    if fits(s, start, end, text_rule(kind), flag) {
-        return Verdict::Right;
-    }
-    Verdict::Wrong
-}
-
-// Writes the bytes that a span stands for into d from `at` on.
-pub fn decode_text(s: &[u8], start: usize, end: usize, d: &mut [u8], at: usize)
-    requires { (start ≤ end) × (end ≤ length s.now) × (at + (end - start) / 2 ≤ length d.old) }
-    ensures { d.new ≡ splice d.old at (decoded (run s.now start (end - start))) }
-{
-    let n = (end - start) / 2;
-    let mut i: usize = 0;
-    while i < n {
-        d[at + i] = hex_byte(s, start + 2 * i);
-        i += 1;
+    let mut next = at;
+    let mut left = text;
+    while let [high, low, rest @ ..] = left {
+        d[next] = hex_byte(*high, *low);
+        next += 1;
+        left = rest;
     }
 }
 
 impl Position {
+    // The line of a text, whatever its kind. One pass finds the end of the line and judges the form: the first byte
+    // that is no digit is the line's byte 10, or the text is none.
+    fn text_line(self, s: &[u8]) -> Option<Span>
+        requires { self.at ≤ length s.now }
+        ensures result_value { got_text s.now self.at result ≡ field "text=" hex wrong_text (λ t. true) s.now self.at }
+        ensures text_inside { TextInside s.now result }
+    {
+        let rest = self.after_key(s, b"text=")?;
+        let digits = digits_end(rest)?;
+        if digits % 2 == 1 || rest[digits] != b'\n' {
+            return None;
+        }
+        let start = self.at + 5;
+        Some(Span {
+            start,
+            end: start + digits,
+        })
+    }
+
     // The text here, of a node of a kind and with a flag.
-    pub fn text(self, s: &[u8], kind: u32, flag: u32) -> SpanRead
+    pub fn text(self, s: &[u8], kind: u32, flag: u32) -> Result<Span, Refused>
         requires { self.at ≤ length s.now }
         ensures result_value { got_span decoded s.now result ≡ field "text=" hex wrong_text (text_fits (kind_of kind).text flag) s.now self.at }
         ensures formed_in { FormedIn hex decoded (text_fits (kind_of kind).text flag) s.now result }
     {
         let at = self.at;
-        match self.long_line(s, b"text=") {
-            LineRead::Malformed => SpanRead::Bad(Fault::Malformed, at),
-            LineRead::Value(v) => {
-                let start = v.start;
-                let end = v.end;
-                let verdict = judge_text(s, start, end, kind, flag);
-                told(at, v, verdict, Fault::WrongText)
-            }
+        let malformed = Refused {
+            why: Fault::Malformed,
+            at,
+        };
+        let text = self.text_line(s).ok_or(malformed)?;
+        if !fits(text.of(s), text_rule(kind), flag) {
+            return Err(Refused {
+                why: Fault::WrongText,
+                at,
+            });
         }
+        Ok(text)
     }
 }

@@ -14,33 +14,31 @@ use Rattle.spec.specs.Tree.{walk_to, whole_tree, judge_tree, judge}
 use Rattle.spec.proofs.reading.Lines.{number_within}
 use Rattle.spec.proofs.reading.Reading.{Sheet, accepted_sheet}
 use Rattle.sheet.specs.Keyed.{number_of}
-use Rattle.sheet.specs.Sheets.{answer, first_node, place_of}
+use Rattle.sheet.specs.Sheets.{numbered, answer, first_node, place_of}
 use Rattle.sheet.proofs.LineLaws.{number_is, field_inside}
 use Rattle.sheet.specs.declared.position.Position.{Position}
-use Rattle.sheet.specs.declared.sheets.SheetRead.{SheetRead}
-use Rattle.sheet.specs.declared.sheets.SheetRead.TheVariants.{Accepted, Refused}
 use Rattle.tree.specs.Nodes.{nodes_in, Stands}
 use Rattle.tree.specs.Walk.{walked_of, Walks}
 use Rattle.tree.specs.Judge.{Nodes}
 use Rattle.tree.specs.declared.walk.Front.{Front}
-use Rattle.tree.specs.declared.walk.SheetRefused.{SheetRefused}
+use Rattle.sheet.specs.declared.faults.SheetRefused.{SheetRefused}
 use Rattle.refusals.specs.Numbers as refusals
 
 -- ---- the lines
-module _ (s : List ℕ) (r : SheetRead) (e : r ≡ answer s (read_sheet s)) where
-  pub lines_refused : (number place : ℕ) → r ≡ Refused number place → Refused number place ≡ answer s (judge s)
+module _ (s : List ℕ) (r : Result (ℕ × Position) SheetRefused) (e : numbered r ≡ answer s (read_sheet s)) where
+  pub lines_refused : (w : SheetRefused) → r ≡ Err w → numbered (Err w) ≡ answer s (judge s)
   unfolding judge judge_tree answer
-  lines_refused number place q = by_lines (read_sheet s) (sym q ∙ e)
+  lines_refused w q = by_lines (read_sheet s) (ap numbered (sym q) ∙ e)
     where
-      by_lines : (j : Judged) → Refused number place ≡ answer s j → Refused number place ≡ answer s (judge_tree j)
-      by_lines (accepted ns) h = let z : ◌≡◌ {A = ℕ} 0 1 = cc in absurd (omega arith)
+      by_lines : (j : Judged) → numbered (Err w) ≡ answer s j → numbered (Err w) ≡ answer s (judge_tree j)
+      by_lines (accepted ns) h = cc
       by_lines (refused n p) h = h
 
-  pub lines_accepted : (nodes : ℕ) (first : Position) → r ≡ Accepted nodes first → Nodes s nodes first
+  pub lines_accepted : (nodes : ℕ) (first : Position) → r ≡ Ok (nodes, first) → Nodes s nodes first
   unfolding nodes_in answer
-  lines_accepted nodes first q = by_lines (read_sheet s) refl (sym q ∙ e)
+  lines_accepted nodes first q = by_lines (read_sheet s) refl (ap numbered (sym q) ∙ e)
     where
-      by_lines : (j : Judged) → read_sheet s ≡ j → Accepted nodes first ≡ answer s j → Nodes s nodes first
+      by_lines : (j : Judged) → read_sheet s ≡ j → numbered (Ok (nodes, first)) ≡ answer s j → Nodes s nodes first
       by_lines (accepted ns) f h =
           let same : nodes_in s ≡ ns = rw f in
           record { right = f ∙ ap accepted (sym same); count = rw same (cc); start = cc }
@@ -91,11 +89,10 @@ module _ (s : List ℕ) (nodes : ℕ) (first : Position) (h : Nodes s nodes firs
 
 -- ---- both
 module _ (s : List ℕ) (nodes : ℕ) (first : Position) (h : Nodes s nodes first) where
-  pub all_accepted : accepted (nodes_in s) ≡ judge s → Accepted nodes first ≡ answer s (judge s)
+  pub all_accepted : accepted (nodes_in s) ≡ judge s → numbered (Ok (nodes, first)) ≡ answer s (judge s)
   unfolding answer
-  all_accepted k = ap₂ Accepted h.count h.start ∙ ap (answer s) k
+  all_accepted k = rw (← k, h.count, h.start) refl
 
-pub tree_refused : (s : List ℕ) (r : SheetRefused) (number : ℕ) → number ≡ refusals.number_of r.why → refused (refusals.number_of r.why) r.place ≡ judge s
-    → Refused number r.place ≡ answer s (judge s)
+pub tree_refused : (s : List ℕ) (r : SheetRefused) → refused (refusals.number_of r.why) r.place ≡ judge s → numbered (Err r) ≡ answer s (judge s)
 unfolding answer
-tree_refused s r number e k = rw (e, ← k) refl
+tree_refused s r k = rw (← k) refl

@@ -1,5 +1,6 @@
 -- The nodes of an accepted sheet and their kids, read one after the other. Assumes nothing.
-use Rattle.std.specs.Prelude.{Option, Some, None, if◌then◌else◌}
+use Rattle.std.specs.Prelude.{Option, Some, None, Result, Ok, Err, if◌then◌else◌}
+use Rattle.std.specs.Borrow.{Bor}
 use mathlib.Core.Path.{◌≡◌, refl, sym, ap, ◌∙◌, subst}
 use mathlib.Core.Bool.{Bool, true, false}
 use mathlib.Core.List.{List, [], ◌∷◌}
@@ -8,13 +9,10 @@ use mathlib.Mathlib.Data.Bool.Basic.{and_elim_left, and_elim_right}
 use Prim.Native.Nat.{ℕ, ◌+◌, ◌-◌, ◌<◌, ◌≤◌}
 use native.Mathlib.Numerals.{add-one}
 use native.Mathlib.Omega.{arith}
-use lib.ListN.{length, take, drop, length-drop}
-use Rattle.std.proofs.Common.{length-take-le}
+use lib.ListN.{length, drop}
 use lib.Seq.{drop-cons}
 use lib.Dec.{eqb, ltb}
 use borrow.Author.Tests.{ltb-true, lt-ltb}
-use Rattle.words.specs.Runs.{run}
-use Rattle.words.proofs.RunLaws.{run_whole}
 use Rattle.spec.specs.Basics.{NodeId, maybe}
 use Rattle.spec.specs.Sheet as spec
 use Rattle.spec.specs.Sheet.{Node, Got, got, bad, ◌>>=◌, give, number, wrong_kind, kid_list, all_below, node}
@@ -25,15 +23,13 @@ use Rattle.module.specs.SyntaxKinds.{syntax_of_number}
 use Rattle.module.specs.declared.syntax_kind.SyntaxKind.{SyntaxKind}
 use Rattle.module.proofs.SyntaxKindLaws.{syntax_gap, syntax_told}
 use Rattle.sheet.specs.Nodes.{node_of, got_node, FormedNode, FormedSpans}
-use Rattle.sheet.specs.declared.position.Fault.{Fault}
+use Rattle.sheet.specs.Lines.{span_of}
+use Rattle.sheet.specs.Kids.{kid_of, short_kids, kids_from, RestInside}
+use Rattle.sheet.specs.declared.faults.Malformed.{Malformed}
+use Rattle.sheet.specs.declared.faults.Refused.{Refused}
 use Rattle.sheet.specs.declared.nodes.Node as row
-use Rattle.sheet.specs.declared.nodes.NodeRead.{NodeRead}
-use Rattle.sheet.specs.declared.nodes.NodeRead.TheVariants as read
-use Rattle.sheet.specs.Kids.{short_kids, kids_from, StepInside}
-use Rattle.sheet.proofs.KidLaws.{Before, walk_end, walk_malformed, walk_absent, walk_number}
-use Rattle.sheet.specs.declared.kids.KidStep.{KidStep}
-use Rattle.sheet.specs.declared.kids.KidStep.TheVariants as step
-use Rattle.tree.specs.Nodes.{nodes_in, Stands, kids_in, Kids, Read, kid_of, After}
+use Rattle.sheet.proofs.KidLaws.{Before, walk_end, walk_malformed, walk_kid}
+use Rattle.tree.specs.Nodes.{nodes_in, Stands, kids_in, Kids, Read, After, FirstKid}
 
 -- what is below a number is below a larger one
 below_more : (m n : ℕ) → m ≤ n → (ks : List (math.Option NodeId)) → all_below m ks ≡ true → all_below n ks ≡ true
@@ -89,14 +85,14 @@ module _ (s : List ℕ) (nodes n at : ℕ) (count : nodes ≡ length (nodes_in s
       let m : n < length (nodes_in s) = omega arith in
       first (rw (drop-cons (nodes_in s) n nobody m, ← add-one n) at h.follow)
 
-  module _ (r : NodeRead) (e : got_node s r ≡ node nodes n s at) (f : FormedNode s nodes r) where
+  module _ (r : Result row.Node Refused) (e : got_node s r ≡ node nodes n s at) (f : FormedNode s nodes r) where
     as_read : got_node s r ≡ got (node_at (nodes_in s) n) here.place
     as_read = e ∙ (ap (λ c. node c n s at) count ∙ here.read)
 
-    pub never_bad : (why : Fault) (place : ℕ) → r ≡ read.Bad why place → ⊥
-    never_bad why place q = not_bad (ap (got_node s) (sym q) ∙ as_read)
+    pub never_bad : (w : Refused) → r ≡ Err w → ⊥
+    never_bad w q = not_bad (ap (got_node s) (sym q) ∙ as_read)
 
-    module _ (x : row.Node) (q : r ≡ read.Value x) where
+    module _ (x : row.Node) (q : r ≡ Ok x) where
       these : (node_of s x ≡ node_at (nodes_in s) n) × (x.next.at ≡ here.place)
       these = same_got (ap (got_node s) (sym q) ∙ as_read)
 
@@ -109,15 +105,18 @@ module _ (s : List ℕ) (nodes n at : ℕ) (count : nodes ≡ length (nodes_in s
       pub never_unkind : syntax_of_number x.kind ≡ None → ⊥
       never_unkind z = let g = syntax_gap x.kind z kind_known.0 in omega (arith, g, kind_known.1)
 
-      pub lines_read : (k : SyntaxKind) → Some k ≡ syntax_of_number x.kind → (ref : ℕ × ℕ)
-          → Read s n (record { kind = k; kids = record { ref_ptr = ref; now = take (x.kids.end - x.kids.start) (drop x.kids.start s) }; next = x.next })
-      unfolding kids_in run
-      lines_read k z ref =
+      pub within : (x.kids.start ≤ x.kids.end) × (x.kids.end ≤ length s)
+      within = (spans.kids.ordered, omega (arith, spans.kids.within))
+
+      pub lines_read : (k : SyntaxKind) → Some k ≡ syntax_of_number x.kind → (kids : Bor (List ℕ)) → kids.now ≡ span_of s x.kids
+          → Read s n (record { kind = k; kids = kids; next = x.next })
+      unfolding kids_in
+      lines_read k z kids a =
           record {
             kind = syntax_told x.kind k (sym z) ∙ ap (λ n. n.kind) these.0;
-            kids = ap (λ n. n.kids) these.0;
-            listed = record { formed = spans.kids.formed; low = below_more nodes 4294967295 few _ spans.kids.fits };
-            low = rw (← count) spans.kids.fits;
+            kids = rw a (ap (λ n. n.kids) these.0);
+            listed = rw a (record { formed = spans.kids.formed; low = below_more nodes 4294967295 few _ spans.kids.fits });
+            low = rw (a, ← count) spans.kids.fits;
             next =
                 record {
                   inside = omega arith;
@@ -128,20 +127,13 @@ module _ (s : List ℕ) (nodes n at : ℕ) (count : nodes ≡ length (nodes_in s
 
 -- ---- a list of kids
 module _ (v : List ℕ) (h : Kids v) where
-  whole : run v 0 (length v - 0) ≡ v
-  whole = let e : length v - 0 ≡ length v = omega arith in rw e (run_whole v)
-
-  formed : kid_list (run v 0 (length v - 0)) ≡ math.some (kids_in v)
-  formed = ap kid_list whole ∙ h.formed
-
-  after : (k : Option ℕ) (next : ℕ) → Before v next (length v) 4294967295 (kid_of k) (kids_in v) → (0 < next) × (next ≤ length v)
-      → After v k (take (length v - next) (drop next v))
-  unfolding kids_in run
-  after k next b i =
-      let here : kids_in (take (length v - next) (drop next v)) ≡ b.rest = ap (λ o. maybe o [] (λ ks. ks)) b.listed in
+  after : (k : Option ℕ) (rest : List ℕ) → Before rest 4294967295 (kid_of k) (kids_in v) → length rest < length v → After v k rest
+  unfolding kids_in
+  after k rest b l =
+      let here : kids_in rest ≡ b.others = ap (λ o. maybe o [] (λ ks. ks)) b.listed in
       record {
         same = b.these ∙ ap (λ l. kid_of k ∷ l) (sym here);
-        shorter = omega (arith, length-take-le (length v - next) (drop next v), length-drop next v);
+        shorter = l;
         others =
             record {
               formed = b.listed ∙ ap math.some (sym here);
@@ -149,20 +141,16 @@ module _ (v : List ℕ) (h : Kids v) where
             };
       }
 
-  module _ (r : KidStep) (e : (kids_from v (length v) r ≡ short_kids (run v 0 (length v - 0))) × StepInside r 0 (length v)) where
-    pub step_end : r ≡ step.End → kids_in v ≡ []
-    step_end = walk_end v 0 (length v) 4294967295 (omega arith) (kids_in v) formed h.low r e.0
+  module _ (r : Result (Option (Option ℕ × Bor (List ℕ))) Malformed) (e : kids_from r ≡ short_kids v) (i : RestInside v r) where
+    pub never_malformed : (w : Malformed) → r ≡ Err w → ⊥
+    never_malformed w q = walk_malformed v 4294967295 (omega arith) (kids_in v) h.formed h.low (rw q at e)
 
-    pub never_malformed : r ≡ step.Malformed → ⊥
-    never_malformed = walk_malformed v 0 (length v) 4294967295 (omega arith) (kids_in v) formed h.low r e.0
-
-    pub step_absent : (next : ℕ) → r ≡ step.Absent next → After v None (take (length v - next) (drop next v))
-    step_absent next q =
-        after None next (walk_absent v 0 (length v) 4294967295 (omega arith) (kids_in v) formed h.low r e.0 next q) (subst (λ r. StepInside r 0 (length v)) q e.1)
-
-    pub step_number : (k next : ℕ) → r ≡ step.Number k next → After v (Some k) (take (length v - next) (drop next v))
-    step_number k next q =
-        after (Some k) next (walk_number v 0 (length v) 4294967295 (omega arith) (kids_in v) formed h.low r e.0 k next q) (subst (λ r. StepInside r 0 (length v)) q e.1)
+    pub first_read : (x : Option (Option ℕ × Bor (List ℕ))) → r ≡ Ok x → FirstKid v x
+    first_read x q = first x (subst (λ r. kids_from r ≡ short_kids v) q e) (subst (RestInside v) q i)
+      where
+        first : (x : Option (Option ℕ × Bor (List ℕ))) → kids_from (Ok x) ≡ short_kids v → RestInside v (Ok x) → FirstKid v x
+        first None e i = walk_end v 4294967295 (omega arith) (kids_in v) h.formed h.low e
+        first (Some p) e i = after p.0 p.1.now (walk_kid v 4294967295 (omega arith) (kids_in v) h.formed h.low (kid_of p.0) p.1.now e) i.less
 
 -- ---- counting
 -- some kids are counted, and the others are in a list

@@ -25,13 +25,14 @@ use Rattle.module.specs.SyntaxKinds.{number_of_syntax}
 use Rattle.tree.proofs.NodeLaws.{below_head}
 use Rattle.tree.specs.Slots.{slot_of}
 use Rattle.tree.specs.Places.{counted_of, listed_of, Fills, Skips, Opens}
-use Rattle.tree.specs.Nodes.{nodes_in, kids_in, Kids, Read, kid_of, After}
+use Rattle.sheet.specs.Kids.{kid_of}
+use Rattle.tree.specs.Nodes.{nodes_in, kids_in, Kids, Read, After}
 use Rattle.tree.specs.Walk.{Walks, entering, entered, kids_walk, TodoStands, Steps}
 use Rattle.tree.specs.declared.slots.Slot.{Slot}
 use Rattle.tree.specs.declared.places.Places.{Places}
 use Rattle.tree.specs.declared.nodes.Lines.{Lines}
 use Rattle.tree.specs.declared.walk.Front.{Front}
-use Rattle.tree.specs.declared.walk.SheetRefused.{SheetRefused}
+use Rattle.sheet.specs.declared.faults.SheetRefused.{SheetRefused}
 use Rattle.tree.specs.declared.walk.Todo.{Todo}
 
 -- ---- answers

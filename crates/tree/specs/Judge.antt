@@ -5,7 +5,7 @@ use Rattle.refusals.specs.Numbers.{number_of}
 use Rattle.sheet.specs.Sheets.{first_node}
 use Rattle.sheet.specs.declared.position.Position.{Position}
 use Rattle.tree.specs.Nodes.{nodes_in}
-use Rattle.tree.specs.declared.walk.SheetRefused.{SheetRefused}
+use Rattle.sheet.specs.declared.faults.SheetRefused.{SheetRefused}
 
 -- the lines of the sheet were accepted: so many nodes, the first at the position
 pub record Nodes (s : List ℕ) (nodes : ℕ) (first : Position) : Type 0 where

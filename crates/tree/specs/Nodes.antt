@@ -7,6 +7,7 @@ use Rattle.spec.specs.Sheet.{Node, Judged, accepted, refused, kid_list, all_belo
 use Rattle.spec.specs.Tree.{node_at}
 use Rattle.spec.proofs.reading.Reading.{Reads}
 use Rattle.module.specs.SyntaxKinds.{number_of_syntax}
+use Rattle.sheet.specs.Kids.{kid_of}
 use Rattle.tree.specs.declared.nodes.Lines.{Lines}
 
 abbrev nodes_of : Judged → List Node
@@ -39,10 +40,6 @@ pub record Read (s : List ℕ) (n : ℕ) (r : Lines) : Type 0 where
   pub listed : Kids r.kids.now
   pub low : all_below (length (nodes_in s)) (kids_in r.kids.now) ≡ true
   pub next : Stands s (n + 1) r.next.at
-
-abbrev pub kid_of : Option ℕ → math.Option NodeId
-kid_of None = math.none
-kid_of (Some k) = math.some k
 
 -- a kid, and the list of those after it
 pub record After (v : List ℕ) (k : Option ℕ) (rest : List ℕ) : Type 0 where

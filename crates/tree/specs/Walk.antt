@@ -8,9 +8,10 @@ use Rattle.spec.specs.Tree as spec
 use Rattle.spec.specs.Tree.{met, stopped, kid_fits, walk_kids, walk_to}
 use Rattle.refusals.specs.Numbers.{number_of}
 use Rattle.tree.specs.Places.{counted_of, listed_of}
-use Rattle.tree.specs.Nodes.{nodes_in, Stands, kid_of}
+use Rattle.sheet.specs.Kids.{kid_of}
+use Rattle.tree.specs.Nodes.{nodes_in, Stands}
 use Rattle.tree.specs.declared.walk.Front.{Front}
-use Rattle.tree.specs.declared.walk.SheetRefused.{SheetRefused}
+use Rattle.sheet.specs.declared.faults.SheetRefused.{SheetRefused}
 use Rattle.tree.specs.declared.walk.Todo.{Todo}
 
 abbrev pub walked_of : Result Front SheetRefused → spec.Walked

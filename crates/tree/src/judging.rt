@@ -1,13 +1,12 @@
 // All that is refused because of the sheet: its lines first, then its tree.
 ghost use Rattle.std.specs.Prelude.{◌≡◌};
 ghost use Rattle.spec.specs.Tree.{judge};
-ghost use Rattle.sheet.specs.Sheets.{answer};
+ghost use Rattle.sheet.specs.Sheets.{numbered, answer};
 ghost use Rattle.tree.specs.Judge.{Nodes, told};
 
 use crate::nodes::Tree;
-use crate::walk::SheetRefused;
 use refusals::Refusal;
-use sheet::{Position, SheetRead, read_sheet};
+use sheet::{Position, SheetRefused, read_sheet};
 
 // The tree of accepted lines. Root is at depth 1 and the deepest node at 256, so 255 levels are left
 // below Root. Refusal 7: a node that the walk did not meet, the first of which is told.
@@ -28,15 +27,11 @@ fn judge_tree(s: &[u8], nodes: u32, first: Position) -> Result<(), SheetRefused>
     Ok(())
 }
 
-// Refusals 1 to 7 and 31 to 33, or how many nodes the sheet has and where the first one starts.
-pub fn judge(s: &[u8]) -> SheetRead
-    ensures { result ≡ answer s.now (judge s.now) }
+// How many nodes an accepted sheet has, and where the first one starts; or refusals 1 to 7 and 31 to 33.
+pub fn judge(s: &[u8]) -> Result<(u32, Position), SheetRefused>
+    ensures { numbered result ≡ answer s.now (judge s.now) }
 {
-    match read_sheet(s) {
-        SheetRead::Refused(number, place) => SheetRead::Refused(number, place),
-        SheetRead::Accepted(nodes, first) => match judge_tree(s, nodes, first) {
-            Ok(()) => SheetRead::Accepted(nodes, first),
-            Err(refused) => SheetRead::Refused(refused.why.number(), refused.place),
-        },
-    }
+    let (nodes, first) = read_sheet(s)?;
+    judge_tree(s, nodes, first)?;
+    Ok((nodes, first))
 }

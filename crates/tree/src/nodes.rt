@@ -3,7 +3,7 @@ ghost use Rattle.std.specs.Prelude.{◌≡◌, ◌<◌, length};
 ghost use Rattle.tree.specs.Nodes.{nodes_in, Stands, kids_in, Kids, FirstKid, Read};
 
 use module::SyntaxKind;
-use sheet::{KidStep, NodeRead, Position, next_kid};
+use sheet::{Position, next_kid};
 
 // A tree as an accepted sheet has it: so many nodes, each by its lines.
 #[derive(Clone, Copy)]
@@ -27,7 +27,7 @@ impl<'a> Tree<'a> {
         requires { (n < self.nodes) × Stands self.sheet.now n here.at }
         ensures { Read self.entry.sheet.now n result }
     {
-        let NodeRead::Value(node) = here.node(self.sheet, self.nodes, n) else {
+        let Ok(node) = here.node(self.sheet, self.nodes, n) else {
             unreachable!()
         };
         let Some(kind) = SyntaxKind::of(node.kind) else {
@@ -35,7 +35,7 @@ impl<'a> Tree<'a> {
         };
         Lines {
             kind,
-            kids: &self.sheet[node.kids.start..node.kids.end],
+            kids: node.kids.of(self.sheet),
             next: node.next,
         }
     }
@@ -46,12 +46,10 @@ pub fn first_kid(kids: &[u8]) -> Option<(Option<u32>, &[u8])>
     requires { Kids kids.now }
     ensures { FirstKid kids.now result }
 {
-    match next_kid(kids, 0, kids.len()) {
-        KidStep::End => None,
-        KidStep::Absent(next) => Some((None, &kids[next..])),
-        KidStep::Number(k, next) => Some((Some(k), &kids[next..])),
-        KidStep::Malformed => unreachable!(),
-    }
+    let Ok(first) = next_kid(kids) else {
+        unreachable!()
+    };
+    first
 }
 
 // How many kids a list has, absent ones too.

@@ -14,14 +14,7 @@ use crate::nodes::{Lines, Tree, count_kids, first_kid};
 use crate::places::Places;
 use crate::slots::Slot;
 use refusals::Refusal;
-use sheet::Position;
-
-// Why a sheet is refused, and where: here at a node, the parent.
-#[derive(Clone, Copy)]
-pub struct SheetRefused {
-    pub why: Refusal,
-    pub place: usize,
-}
+use sheet::{Position, SheetRefused};
 
 // The highest node met, and the place of the node after it.
 #[derive(Clone, Copy)]

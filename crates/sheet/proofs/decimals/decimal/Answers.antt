@@ -1,15 +1,17 @@
--- `sheet::decimals::decimal` meets its contract.
-use Rattle.sheet.proofs.DecimalLaws.{decimal_none, decimal_zero, decimal_zeros, decimal_more}
+use Rattle.std.proofs.Common.{◌∙◌, arith}
+use Rattle.sheet.proofs.DecimalLaws.{no_text, zero_first, one_digit, other_first}
 use Rattle.sheet.proofs.decimals.decimal.Goals as goal
+use Rattle.sheet.proofs.decimals.decimal.Goals.{else-first-eq48-via-then-first-eq48+else-not-is_empty, else-first-eq48-via-else-first-eq48}
 
-pub returns-then-start-end : goal.returns-then-start-end
-returns-then-start-end c = decimal_none c.args.s.now c.args.start c.args.end c.requires.0 c.requires.1 c.if-start-end.true
+pub returns-in_err-first : goal.returns-in_err-first
+returns-in_err-first c = rw c.from_residual.ensures (no_text c.args.text.now c.in_err-first.ensures.cases)
 
-pub returns-then-end-start-eq1 : goal.returns-then-end-start-eq1
-returns-then-end-start-eq1 c = decimal_zero c.args.s.now c.args.start c.args.end c.requires.0 c.requires.1 c.if-start-end.false c.if-s-start-eq48.true c.if-end-start-eq1.true
-
-pub returns-then-s-start-eq48 : goal.returns-then-s-start-eq48
-returns-then-s-start-eq48 c = decimal_zeros c.args.s.now c.args.start c.args.end c.requires.0 c.requires.1 c.if-start-end.false c.if-s-start-eq48.true c.if-end-start-eq1.false
+pub returns-then-not-is_empty : goal.returns-then-not-is_empty
+returns-then-not-is_empty c = rw c.in_ok-first.ensures.cases.0 (zero_first c.in_ok-first.first.now c.in_ok-first.rest.now c.if-first-eq48.true c.if-not-is_empty.ensures)
 
 pub returns : goal.returns
-returns c = decimal_more c.args.s.now c.args.start c.args.end c.requires.0 c.requires.1 c.if-start-end.false c.if-s-start-eq48.false _ c.digits.ensures
+returns c =
+    c.digits.ensures ∙ rw c.in_ok-first.ensures.cases.0 (elim c.else-first-eq48.branch [
+      | else-first-eq48-via-then-first-eq48+else-not-is_empty w ↦ one_digit c.in_ok-first.first.now c.in_ok-first.rest.now w.if-not-is_empty.ensures
+      | else-first-eq48-via-else-first-eq48 w ↦ other_first c.in_ok-first.first.now c.in_ok-first.rest.now w.if-first-eq48.false
+    ])

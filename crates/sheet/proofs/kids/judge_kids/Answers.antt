@@ -1,16 +1,22 @@
--- `sheet::kids::judge_kids` meets its contract.
-use Rattle.sheet.proofs.KidLaws.{judging_start, judging_told, judging_more, judging_less}
-use native.Mathlib.Omega.{arith}
+use Rattle.std.proofs.Common.{arith}
+use Rattle.sheet.specs.Kids.{kid_of}
+use Rattle.sheet.proofs.Exits.{same_error}
+use Rattle.sheet.proofs.KidLaws.{judging_start, judging_malformed, judging_end, judging_low, judging_high}
 use Rattle.sheet.proofs.kids.judge_kids.Goals as goal
 
-pub loop-verdict-init : goal.loop-verdict-init
-loop-verdict-init c = judging_start _ _ _ _ c.requires.0
+pub loop-kid-init : goal.loop-kid-init
+loop-kid-init c = judging_start c.args.kids.now c.args.nodes
 
-pub returns-in-Told : goal.returns-in-Told
-returns-in-Told c = judging_told c.args.s.now c.args.start c.args.end c.args.nodes c.loop-verdict.at c.loop-verdict.low c.loop-verdict.invariant c.judge_kid.result c.judge_kid.ensures.result_value c.in-Told.verdict c.in-Told.is
+pub returns-in_err-kid : goal.returns-in_err-kid
+returns-in_err-kid c = rw (same_error _ _ c.from_residual.ensures.1) (judging_malformed c.loop-kid.invariant (omega arith) c.in_err-kid.ensures.result_value)
 
-pub loop-verdict-smaller : goal.loop-verdict-smaller
-loop-verdict-smaller c = omega (arith, judging_less c.args.s.now c.args.start c.args.end c.args.nodes c.loop-verdict.at c.loop-verdict.low c.loop-verdict.invariant c.judge_kid.result c.judge_kid.ensures.result_value c.judge_kid.ensures.left_inside _ _ c.in-More.is)
+pub loop-kid-preserved-then-not-is_below : goal.loop-kid-preserved-then-not-is_below
+loop-kid-preserved-then-not-is_below c =
+    judging_high c.loop-kid.invariant (omega arith) c.in-Some.rest.now (kid_of c.in-Some.kid) (rw c.in-Some.is at c.in_ok-kid.ensures.result_value) c.if-not-is_below.ensures
 
-pub loop-verdict-preserved : goal.loop-verdict-preserved
-loop-verdict-preserved c = judging_more c.args.s.now c.args.start c.args.end c.args.nodes c.loop-verdict.at c.loop-verdict.low c.loop-verdict.invariant c.judge_kid.result c.judge_kid.ensures.result_value c.judge_kid.ensures.left_inside _ _ c.in-More.is
+pub loop-kid-preserved : goal.loop-kid-preserved
+loop-kid-preserved c =
+    judging_low c.loop-kid.invariant (omega arith) c.in-Some.rest.now (kid_of c.in-Some.kid) (rw c.in-Some.is at c.in_ok-kid.ensures.result_value) c.if-not-is_below.ensures
+
+pub returns : goal.returns
+returns c = judging_end c.loop-kid.invariant (omega arith) (rw c.in_default.is at c.in_ok-kid.ensures.result_value)

@@ -1,10 +1,9 @@
--- The loops of `sheet::kids::judge_kids`.
-use Prim.Native.Nat.{◌-◌}
+use Rattle.std.proofs.Common.{length}
 use Rattle.sheet.proofs.KidLaws.{Judging}
 use Rattle.sheet.proofs.kids.judge_kids.Given as goal
 
-abbrev pub invariant-loop-verdict : goal.invariant-loop-verdict
-invariant-loop-verdict l = Judging l.s l.start l.end l.nodes l.at l.low
+abbrev pub invariant-loop-kid : goal.invariant-loop-kid
+invariant-loop-kid l = Judging l.kids l.nodes l.low l.left
 
-abbrev pub decreases-loop-verdict : goal.decreases-loop-verdict
-decreases-loop-verdict l = l.end - l.at
+abbrev pub decreases-loop-kid : goal.decreases-loop-kid
+decreases-loop-kid l = length l.left

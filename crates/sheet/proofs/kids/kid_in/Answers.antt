@@ -1,12 +1,17 @@
--- `sheet::kids::kid_in` meets its contract.
-use Rattle.sheet.proofs.KidLaws.{kid_absent, kid_malformed, kid_number}
+use Rattle.std.proofs.Common.{◌∙◌, ap}
+use lib.Pointwise.{pointwise}
+use lib.Dec.{eqb}
+use Rattle.sheet.proofs.Exits.{same_error, nothing}
+use Rattle.sheet.proofs.KidLaws.{kid_dash, kid_malformed, kid_number}
 use Rattle.sheet.proofs.kids.kid_in.Goals as goal
 
-pub returns-then-is_dash : goal.returns-then-is_dash
-returns-then-is_dash c = kid_absent _ _ c.is_dash.ensures c.if-is_dash.true
+pub returns-then-eq : goal.returns-then-eq
+returns-then-eq c = kid_dash c.args.part.now (c.if-eq.ensures ∙ ap (pointwise eqb c.args.part.now) c.as_slice.ensures)
 
-pub returns-in-Malformed : goal.returns-in-Malformed
-returns-in-Malformed c = kid_malformed _ _ c.is_dash.ensures c.if-is_dash.false c.decimal.result c.decimal.ensures c.in-Malformed.is
+pub returns-in_err-n : goal.returns-in_err-n
+returns-in_err-n c =
+    let p = nothing _ _ _ c.in_err-n.ensures.value in
+    rw (same_error _ _ c.from_residual.ensures.1) (kid_malformed c.args.part.now (c.if-eq.ensures ∙ ap (pointwise eqb c.args.part.now) c.as_slice.ensures) c.decimal.result c.decimal.ensures p.0)
 
-pub returns-in-Number : goal.returns-in-Number
-returns-in-Number c = kid_number _ _ c.is_dash.ensures c.if-is_dash.false c.decimal.result c.decimal.ensures _ _ c.in-Number.is c.shortened.ensures
+pub returns : goal.returns
+returns c = kid_number c.args.part.now (c.if-eq.ensures ∙ ap (pointwise eqb c.args.part.now) c.as_slice.ensures) c.decimal.result c.decimal.ensures c.in_ok-n.n c.shortened.result c.in_ok-n.ensures.ok_part c.shortened.ensures

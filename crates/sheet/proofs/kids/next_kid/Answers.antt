@@ -1,19 +1,32 @@
--- `sheet::kids::next_kid` meets its contract.
-use Rattle.sheet.proofs.KidLaws.{step_none, step_comma, step_malformed, step_absent, step_number}
-use native.Mathlib.Omega.{arith}
+use Rattle.std.proofs.Common.{arith}
+use borrow.Author.Tests.{true-eqb}
+use Rattle.sheet.specs.Kids.{kid_of}
+use Rattle.sheet.proofs.Exits.{same_error}
+use Rattle.sheet.proofs.KidLaws.{step_none, part_inside, at_comma, no_kid, one_kid, rest_left}
 use Rattle.sheet.proofs.kids.next_kid.Goals as goal
 
-pub returns-then-at-end : goal.returns-then-at-end
-returns-then-at-end c = let answer = step_none c.args.s.now c.args.at c.args.end c.if-at-end.true in record { result_value = answer.0; step_inside = answer.1 }
+pub returns-then-is_empty-clause-result_value : goal.returns-then-is_empty-clause-result_value
+returns-then-is_empty-clause-result_value c = step_none c.args.kids.now (true-eqb _ 0 c.if-is_empty.ensures)
 
-pub returns-then-end-part-eq1 : goal.returns-then-end-part-eq1
-returns-then-end-part-eq1 c = let answer = step_comma c.args.s.now c.args.at c.args.end c.part_end-part.result (omega (arith, c.if-at-end.false)) c.requires.1 c.part_end-part.ensures c.if-end-part-eq1.true in record { result_value = answer.0; step_inside = answer.1 }
+pub split_at-requires : goal.split_at-requires
+split_at-requires c = omega (arith, c.part_end.ensures, part_inside c.args.kids.now)
 
-pub returns-in-Malformed : goal.returns-in-Malformed
-returns-in-Malformed c = let answer = step_malformed c.args.s.now c.args.at c.args.end c.part_end-part.result (omega (arith, c.if-at-end.false)) c.requires.1 c.part_end-part.ensures c.if-end-part-eq1.false c.past-next.result c.past-next.ensures c.kid_in.result c.kid_in.ensures c.in-Malformed.is in record { result_value = answer.0; step_inside = answer.1 }
+pub returns-in_err-rest-clause-result_value : goal.returns-in_err-rest-clause-result_value
+returns-in_err-rest-clause-result_value c =
+    rw (same_error _ _ c.from_residual.ensures.1)
+    (at_comma c.args.kids.now _ _ c.part_end.result c.part_end.ensures c.split_at.ensures.front c.split_at.ensures.back c.if-is_empty.ensures c.in_err-rest.ensures)
 
-pub returns-in-Absent : goal.returns-in-Absent
-returns-in-Absent c = let answer = step_absent c.args.s.now c.args.at c.args.end c.part_end-part.result (omega (arith, c.if-at-end.false)) c.requires.1 c.part_end-part.ensures c.if-end-part-eq1.false c.past-next.result c.past-next.ensures c.kid_in.result c.kid_in.ensures c.in-Absent.is in record { result_value = answer.0; step_inside = answer.1 }
+pub returns-in_err-kid-clause-result_value : goal.returns-in_err-kid-clause-result_value
+returns-in_err-kid-clause-result_value c =
+    rw (same_error _ _ c.from_residual-in_err-kid.ensures.1)
+    (no_kid c.args.kids.now _ _ c.part_end.result c.part_end.ensures c.split_at.ensures.front c.split_at.ensures.back c.if-is_empty.ensures c.in_ok-rest.rest.now c.in_ok-rest.ensures
+    c.in_err-kid.ensures)
 
-pub returns-in-Number : goal.returns-in-Number
-returns-in-Number c = let answer = step_number c.args.s.now c.args.at c.args.end c.part_end-part.result (omega (arith, c.if-at-end.false)) c.requires.1 c.part_end-part.ensures c.if-end-part-eq1.false c.past-next.result c.past-next.ensures c.kid_in.result c.kid_in.ensures _ c.in-Number.is in record { result_value = answer.0; step_inside = answer.1 }
+pub returns-clause-result_value : goal.returns-clause-result_value
+returns-clause-result_value c =
+    one_kid c.args.kids.now _ _ c.part_end.result c.part_end.ensures c.split_at.ensures.front c.split_at.ensures.back c.if-is_empty.ensures c.in_ok-rest.rest.now c.in_ok-rest.ensures
+    (kid_of c.in_ok-kid.kid) c.in_ok-kid.ensures
+
+pub returns-clause-rest_inside : goal.returns-clause-rest_inside
+returns-clause-rest_inside c =
+    rest_left c.args.kids.now _ _ c.part_end.result c.part_end.ensures c.split_at.ensures.front c.split_at.ensures.back c.if-is_empty.ensures c.in_ok-rest.rest.now c.in_ok-rest.ensures

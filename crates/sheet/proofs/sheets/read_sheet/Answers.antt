@@ -1,23 +1,36 @@
--- `sheet::sheets::read_sheet` meets its contract.
+use Rattle.std.proofs.Common.{arith, ◌∙◌, ap, refl}
+use Rattle.std.proofs.lemmas.Result.{err_from_is_err_and}
+use Rattle.spec.specs.Basics.{bytes}
+use Rattle.spec.specs.Sheet.{wrong_count, fault_number}
+use Rattle.sheet.specs.Faults.{fault_of}
+use Rattle.sheet.specs.Sheets.{numbered}
 use Rattle.sheet.proofs.NodeLaws.{number_inside}
-use Rattle.sheet.proofs.SheetLaws.{sheet_long, sheet_count, sheet_node, sheet_more, sheet_whole}
-use native.Mathlib.Omega.{arith}
+use Rattle.sheet.proofs.SheetLaws.{sheet_long, sheet_count, sheet_node, sheet_more, sheet_whole, numbered_is}
 use Rattle.sheet.proofs.sheets.read_sheet.Goals as goal
 
 pub returns-then-s-gt1048576 : goal.returns-then-s-gt1048576
 returns-then-s-gt1048576 c = sheet_long c.args.s.now c.if-s-gt1048576.true
 
+pub returns-in_err-nodes : goal.returns-in_err-nodes
+returns-in_err-nodes c =
+    let p = err_from_is_err_and c.from_residual.result c.from_residual.ensures.1 in
+    ap numbered p.1 ∙ numbered_is p.0 _ _ _ p.2
+    (sheet_count c.args.s.now (omega arith) c.first.result c.first.ensures (fault_of c.in_err-nodes.field-0.0.why) c.in_err-nodes.field-0.0.at _ c.in_err-nodes.ensures refl)
+
 pub nodes-requires : goal.nodes-requires
-nodes-requires c = number_inside _ _ _ _ c.args.s.now _ c.number.result c.number.ensures _ _ c.in-Value.is
+nodes-requires c = number_inside (bytes "nodes=") wrong_count 1 4096 c.args.s.now c.first.result.at _ _ c.in_ok-nodes.ensures
 
-pub returns-then-at-s : goal.returns-then-at-s
-returns-then-at-s c = sheet_whole c.args.s.now (omega arith) c.first-start.result c.first-start.ensures c.number.result c.number.ensures _ _ c.in-Value.is c.nodes.result c.nodes.ensures _ c.in-End.is c.if-at-s.true
+pub returns-in_err-last : goal.returns-in_err-last
+returns-in_err-last c =
+    let p = err_from_is_err_and c.from_residual-in_err-last.result c.from_residual-in_err-last.ensures.1 in
+    ap numbered p.1 ∙ numbered_is p.0 _ _ _ p.2
+    (sheet_node c.args.s.now (omega arith) c.first.result c.first.ensures c.in_ok-nodes.nodes c.in_ok-nodes.first c.in_ok-nodes.ensures
+    (fault_of c.in_err-last.field-0.0.why) c.in_err-last.field-0.0.at _ c.in_err-last.ensures refl)
 
-pub returns-in-Bad : goal.returns-in-Bad
-returns-in-Bad c = sheet_count c.args.s.now (omega arith) c.first-start.result c.first-start.ensures c.number.result c.number.ensures _ _ _ c.in-Bad.is c.refusal.ensures
+pub returns-then-last-s : goal.returns-then-last-s
+returns-then-last-s c =
+    sheet_more c.args.s.now (omega arith) c.first.result c.first.ensures c.in_ok-nodes.nodes c.in_ok-nodes.first c.in_ok-nodes.ensures c.in_ok-last.last c.in_ok-last.ensures c.if-last-s.true
 
-pub returns-in-Bad-nodes : goal.returns-in-Bad-nodes
-returns-in-Bad-nodes c = sheet_node c.args.s.now (omega arith) c.first-start.result c.first-start.ensures c.number.result c.number.ensures _ _ c.in-Value.is c.nodes.result c.nodes.ensures _ _ _ c.in-Bad-nodes.is c.refusal-in-Bad-nodes.ensures
-
-pub returns-else-at-s : goal.returns-else-at-s
-returns-else-at-s c = sheet_more c.args.s.now (omega arith) c.first-start.result c.first-start.ensures c.number.result c.number.ensures _ _ c.in-Value.is c.nodes.result c.nodes.ensures _ c.in-End.is c.if-at-s.false
+pub returns : goal.returns
+returns c =
+    sheet_whole c.args.s.now (omega arith) c.first.result c.first.ensures c.in_ok-nodes.nodes c.in_ok-nodes.first c.in_ok-nodes.ensures c.in_ok-last.last c.in_ok-last.ensures c.if-last-s.false

@@ -1,18 +1,18 @@
--- `sheet::texts::hex_digit` meets its contract.
-use Rattle.sheet.proofs.TextLaws.{of_low, of_number, of_between, of_letter, of_high}
+use Rattle.std.proofs.Common.{arith}
+use Rattle.sheet.proofs.TextLaws.{of_number, of_letter, of_other}
 use Rattle.sheet.proofs.texts.hex_digit.Goals as goal
 
-pub returns-then-c-lt48 : goal.returns-then-c-lt48
-returns-then-c-lt48 c = of_low _ c.if-c-lt48.true
+pub returns-in-48-to-57 : goal.returns-in-48-to-57
+returns-in-48-to-57 c = of_number c.args.c (omega arith) (omega arith)
 
-pub returns-then-c-le57 : goal.returns-then-c-le57
-returns-then-c-le57 c = of_number _ c.if-c-lt48.false c.if-c-le57.true
+pub returns-in-97-to-102 : goal.returns-in-97-to-102
+returns-in-97-to-102 c = of_letter c.args.c (omega arith) (omega arith)
 
-pub returns-then-c-lt97 : goal.returns-then-c-lt97
-returns-then-c-lt97 c = of_between _ c.if-c-le57.false c.if-c-lt97.true
+pub returns-in_default : goal.returns-in_default
+returns-in_default c = of_other c.args.c (λ a b. omega arith) (λ a b. omega arith)
 
-pub returns-then-c-le102 : goal.returns-then-c-le102
-returns-then-c-le102 c = of_letter _ c.if-c-lt97.false c.if-c-le102.true
+pub returns-in_default-2 : goal.returns-in_default-2
+returns-in_default-2 c = of_other c.args.c (λ a b. omega arith) (λ a b. omega arith)
 
-pub returns-else-c-le102 : goal.returns-else-c-le102
-returns-else-c-le102 c = of_high _ c.if-c-le102.false
+pub returns-in_default-3 : goal.returns-in_default-3
+returns-in_default-3 c = of_other c.args.c (λ a b. omega arith) (λ a b. omega arith)

@@ -1,15 +1,18 @@
--- `sheet::texts::is_hex` meets its contract.
-use Rattle.sheet.proofs.TextLaws.{is_low, is_number, is_between, is_last}
+use Rattle.std.proofs.Common.{arith}
+use Rattle.sheet.proofs.TextLaws.{is_number, is_letter, is_other}
 use Rattle.sheet.proofs.texts.is_hex.Goals as goal
 
-pub returns-then-c-lt48 : goal.returns-then-c-lt48
-returns-then-c-lt48 c = is_low _ c.if-c-lt48.true
+pub returns-in-48-to-57 : goal.returns-in-48-to-57
+returns-in-48-to-57 c = is_number c.args.c (omega arith) (omega arith)
 
-pub returns-then-c-le57 : goal.returns-then-c-le57
-returns-then-c-le57 c = is_number _ c.if-c-lt48.false c.if-c-le57.true
+pub returns-in-48-to-57-2 : goal.returns-in-48-to-57-2
+returns-in-48-to-57-2 c = is_letter c.args.c (omega arith) (omega arith)
 
-pub returns-then-c-lt97 : goal.returns-then-c-lt97
-returns-then-c-lt97 c = is_between _ c.if-c-le57.false c.if-c-lt97.true
+pub returns-in_default : goal.returns-in_default
+returns-in_default c = is_other c.args.c (λ a b. omega arith) (λ a b. omega arith)
 
-pub returns : goal.returns
-returns c = is_last _ c.if-c-lt97.false
+pub returns-in_default-2 : goal.returns-in_default-2
+returns-in_default-2 c = is_other c.args.c (λ a b. omega arith) (λ a b. omega arith)
+
+pub returns-in_default-3 : goal.returns-in_default-3
+returns-in_default-3 c = is_other c.args.c (λ a b. omega arith) (λ a b. omega arith)

@@ -1,10 +1,9 @@
--- `sheet::texts::is_number` meets its contract.
+use Rattle.std.proofs.Common.{◌∙◌, ap, sym, not}
 use Rattle.sheet.proofs.TextLaws.{number_none, number_some}
-use mathlib.Core.Path.{sym, ◌∙◌}
 use Rattle.sheet.proofs.texts.is_number.Goals as goal
 
-pub returns-then-is_empty : goal.returns-then-is_empty
-returns-then-is_empty c = number_none _ (sym c.if-is_empty.true ∙ c.is_empty.ensures)
+pub returns-then-not-is_empty : goal.returns-then-not-is_empty
+returns-then-not-is_empty c = number_some _ c.if-not-is_empty.ensures c.all_digits.result c.all_digits.ensures
 
-pub returns : goal.returns
-returns c = number_some _ (sym c.if-is_empty.false ∙ c.is_empty.ensures) _ c.all_digits.ensures
+pub returns-else-not-is_empty : goal.returns-else-not-is_empty
+returns-else-not-is_empty c = ap not c.if-not-is_empty.false ∙ number_none _ c.if-not-is_empty.ensures

@@ -1,22 +1,42 @@
--- `sheet::position::Position::kids` meets its contract.
-use Rattle.sheet.proofs.KidLaws.{kids_agree}
-use Rattle.sheet.proofs.LineLaws.{value_inside}
-use Rattle.sheet.proofs.VerdictLaws.{told_other, told_judged}
+use Rattle.std.proofs.Common.{◌∙◌, ap, Ok}
+use Rattle.spec.specs.Basics.{bytes}
+use Rattle.spec.specs.Sheet.{line, field, kid_list, wrong_kid, all_below}
 use Rattle.sheet.specs.Keyed.{line_of, field_of}
 use Rattle.sheet.specs.Kids.{kids_of}
-use Rattle.sheet.specs.declared.position.Fault.TheVariants as fault
-use Rattle.spec.specs.Basics.{bytes}
-use Rattle.spec.specs.Sheet.{line, field, kid_list, all_below}
-use native.Mathlib.Omega.{arith}
+use Rattle.sheet.proofs.Exits.{same_error, nothing}
+use Rattle.sheet.proofs.KidLaws.{kids_agree}
+use Rattle.sheet.proofs.VerdictLaws.{told_other, told_malformed, told_wrong, told_right}
 use Rattle.sheet.proofs.position.Position.kids.Goals as goal
 
-pub judge_kids-verdict-requires : goal.judge_kids-verdict-requires
-judge_kids-verdict-requires c = let i = value_inside c.line.result c.in-Value.v _ c.in-Value.is c.line.ensures.value_inside in (i.0, omega arith)
-
-pub returns-in-Malformed : goal.returns-in-Malformed
+pub returns-in_err-list-clause-result_value : goal.returns-in_err-list-clause-result_value
 unfolding line_of line field_of field
-returns-in-Malformed c = let answer = told_other (bytes "kids=") kid_list kids_of kids_agree fault.WrongKid (all_below c.args.nodes) c.args.s.now c.args.self.at c.line.result c.line.ensures.result_value c.in-Malformed.is in record { result_value = answer.0; formed_in = answer.1 }
+returns-in_err-list-clause-result_value c =
+    let p = nothing _ _ _ c.in_err-list.ensures.value in
+    rw (same_error _ _ c.from_residual.ensures.1, p.1)
+    (told_other (bytes "kids=") kid_list kids_of kids_agree wrong_kid (all_below c.args.nodes) c.args.s.now c.args.self.at c.line.result c.line.ensures.result_value p.0)
 
-pub returns-in-Value : goal.returns-in-Value
+pub returns-in-Ok-true-clause-result_value : goal.returns-in-Ok-true-clause-result_value
 unfolding line_of line field_of field
-returns-in-Value c = let answer = told_judged (bytes "kids=") kid_list kids_of kids_agree fault.WrongKid (all_below c.args.nodes) c.args.s.now c.args.self.at c.line.result c.line.ensures.result_value c.in-Value.v c.in-Value.is c.line.ensures.value_inside c.judge_kids-verdict.result c.judge_kids-verdict.ensures c.told.result c.told.ensures in record { result_value = answer.0; formed_in = answer.1 }
+returns-in-Ok-true-clause-result_value c =
+    (told_right (bytes "kids=") kid_list kids_of kids_agree wrong_kid (all_below c.args.nodes) c.args.s.now c.args.self.at c.line.result c.line.ensures.result_value
+    c.in_ok-list.list c.in_ok-list.ensures.ok_part c.judge_kids.result (rw (← c.of.ensures) c.judge_kids.ensures)
+    (rw c.in_ok-list.ensures.ok_part at c.line.ensures.value_inside) (c.in-Ok-true.is ∙ ap Ok c.in-Ok-true.field-0-test)).0
+
+pub returns-in-Ok-true-clause-formed_in : goal.returns-in-Ok-true-clause-formed_in
+returns-in-Ok-true-clause-formed_in c =
+    (told_right (bytes "kids=") kid_list kids_of kids_agree wrong_kid (all_below c.args.nodes) c.args.s.now c.args.self.at c.line.result c.line.ensures.result_value
+    c.in_ok-list.list c.in_ok-list.ensures.ok_part c.judge_kids.result (rw (← c.of.ensures) c.judge_kids.ensures)
+    (rw c.in_ok-list.ensures.ok_part at c.line.ensures.value_inside) (c.in-Ok-true.is ∙ ap Ok c.in-Ok-true.field-0-test)).1
+
+pub returns-in-Ok-false-clause-result_value : goal.returns-in-Ok-false-clause-result_value
+unfolding line_of line field_of field
+returns-in-Ok-false-clause-result_value c =
+    told_wrong (bytes "kids=") kid_list kids_of kids_agree wrong_kid (all_below c.args.nodes) c.args.s.now c.args.self.at c.line.result c.line.ensures.result_value
+    c.in_ok-list.list c.in_ok-list.ensures.ok_part c.judge_kids.result (rw (← c.of.ensures) c.judge_kids.ensures)
+    (c.in-Ok-false.is ∙ ap Ok c.in-Ok-false.field-0-test)
+
+pub returns-in-Err-clause-result_value : goal.returns-in-Err-clause-result_value
+unfolding line_of line field_of field
+returns-in-Err-clause-result_value c =
+    told_malformed (bytes "kids=") kid_list kids_of kids_agree wrong_kid (all_below c.args.nodes) c.args.s.now c.args.self.at c.line.result c.line.ensures.result_value
+    c.in_ok-list.list c.in_ok-list.ensures.ok_part c.judge_kids.result (rw (← c.of.ensures) c.judge_kids.ensures) c.in-Err.field-0 c.in-Err.is

@@ -1,18 +1,16 @@
--- `sheet::position::Position::nodes` meets its contract.
-use Rattle.sheet.proofs.SheetLaws.{reading_start, reading_end, reading_bad, reading_more}
+use Rattle.std.proofs.Common.{arith}
+use Rattle.sheet.proofs.Exits.{same_error}
+use Rattle.sheet.proofs.SheetLaws.{reading_start, reading_bad, reading_more, reading_end}
 use Rattle.sheet.proofs.position.Position.nodes.Goals as goal
 
 pub loop-i-init : goal.loop-i-init
-loop-i-init c = reading_start _ _ _ c.requires
+loop-i-init c = reading_start c.args.s.now c.args.self.at c.args.nodes c.requires
 
-pub node-requires : goal.node-requires
-node-requires c = c.loop-i.invariant.inside
-
-pub returns-in-Bad : goal.returns-in-Bad
-returns-in-Bad c = reading_bad c.args.s.now c.args.self.at c.args.nodes c.loop-i.i c.loop-i.here.at c.loop-i.invariant c.loop-i-test.true c.node.result c.node.ensures.result_value _ _ c.in-Bad.is
+pub returns-in_err-here : goal.returns-in_err-here
+returns-in_err-here c = rw (same_error _ _ c.from_residual.ensures.1) (reading_bad c.loop-i.invariant c.loop-i-test.true _ _ c.in_err-here.ensures.result_value)
 
 pub loop-i-preserved : goal.loop-i-preserved
-loop-i-preserved c = reading_more c.args.s.now c.args.self.at c.args.nodes c.loop-i.i c.loop-i.here.at c.loop-i.invariant c.loop-i-test.true c.node.result c.node.ensures.result_value c.node.ensures.formed_node _ c.in-Value.is
+loop-i-preserved c = reading_more c.loop-i.invariant c.loop-i-test.true c.in_ok-here.field-0 c.in_ok-here.ensures.result_value c.in_ok-here.ensures.formed_node
 
 pub returns : goal.returns
-returns c = reading_end c.args.s.now c.args.self.at c.args.nodes c.loop-i.i c.loop-i.here.at c.loop-i.invariant c.loop-i-test.false
+returns c = reading_end c.loop-i.invariant (omega arith)

@@ -1,27 +1,31 @@
--- `sheet::position::Position::number` meets its contract.
-use Rattle.sheet.proofs.LineLaws.{value_inside}
-use Rattle.sheet.proofs.NumberLaws.{number_other, number_malformed, number_low, number_right, number_high}
-use Rattle.sheet.specs.Faults.{fault_of}
-use native.Mathlib.Omega.{arith}
+use Rattle.std.proofs.Common.{arith, ◌∙◌, ap, sym}
+use Rattle.sheet.specs.Numbers.{got_number}
+use Rattle.sheet.proofs.Exits.{same_error, nothing}
+use Rattle.sheet.proofs.NumberLaws.{number_other, number_malformed, number_low, number_high, number_right}
 use Rattle.sheet.proofs.position.Position.number.Goals as goal
+use Rattle.sheet.proofs.position.Position.number.Goals.{then-n-from-via-then-n-from, then-n-from-via-else-n-from+then-from-n}
 
-pub decimal-requires : goal.decimal-requires
-decimal-requires c = let i = value_inside c.line.result c.in-Value.v _ c.in-Value.is c.line.ensures.value_inside in (i.0, omega arith)
+pub returns-in_err-value : goal.returns-in_err-value
+returns-in_err-value c =
+    let p = nothing _ _ _ c.in_err-value.ensures.value in
+    rw (same_error _ _ c.from_residual.ensures.1, p.1) (number_other c.args.key.now _ c.args.lo c.args.hi c.args.s.now c.args.self.at c.line.result c.line.ensures.result_value p.0)
 
-pub returns-then-n-lo : goal.returns-then-n-lo
-returns-then-n-lo c = number_low c.args.key.now (fault_of c.args.why) c.args.lo c.args.hi c.args.s.now c.args.self.at c.line.result c.line.ensures.result_value c.in-Value.v c.in-Value.is c.decimal.result c.decimal.ensures c.in-Number.n c.in-Number.is (omega arith) c.if-n-lo.true
+pub returns-in_err-n : goal.returns-in_err-n
+returns-in_err-n c =
+    let p = nothing _ _ _ c.in_err-n.ensures.value in
+    rw (same_error _ _ c.from_residual-in_err-n.ensures.1, p.1)
+    (number_malformed c.args.key.now _ c.args.lo c.args.hi c.args.s.now c.args.self.at c.line.result c.line.ensures.result_value
+    c.in_ok-value.value c.in_ok-value.ensures.ok_part c.decimal.result (rw (← c.of.ensures) c.decimal.ensures) p.0)
 
-pub returns-then-hi-n : goal.returns-then-hi-n
-returns-then-hi-n c = number_high c.args.key.now (fault_of c.args.why) c.args.lo c.args.hi c.args.s.now c.args.self.at c.line.result c.line.ensures.result_value c.in-Value.v c.in-Value.is c.decimal.result c.decimal.ensures c.in-Number.n c.in-Number.is (omega arith) c.if-hi-n.true
+pub returns-then-n-from : goal.returns-then-n-from
+returns-then-n-from c = elim c.then-n-from.branch [
+  | then-n-from-via-then-n-from w ↦ number_low c.args.key.now _ c.args.lo c.args.hi c.args.s.now c.args.self.at c.line.result c.line.ensures.result_value
+      c.in_ok-value.value c.in_ok-value.ensures.ok_part c.decimal.result (rw (← c.of.ensures) c.decimal.ensures) c.in_ok-n.n c.in_ok-n.ensures.ok_part (omega arith) (omega arith)
+  | then-n-from-via-else-n-from+then-from-n w ↦ number_high c.args.key.now _ c.args.lo c.args.hi c.args.s.now c.args.self.at c.line.result c.line.ensures.result_value
+      c.in_ok-value.value c.in_ok-value.ensures.ok_part c.decimal.result (rw (← c.of.ensures) c.decimal.ensures) c.in_ok-n.n c.in_ok-n.ensures.ok_part (omega arith) (omega arith)
+]
 
-pub after-requires : goal.after-requires
-after-requires c = omega (arith, value_inside c.line.result c.in-Value.v _ c.in-Value.is c.line.ensures.value_inside)
-
-pub returns-in-Malformed : goal.returns-in-Malformed
-returns-in-Malformed c = number_other c.args.key.now (fault_of c.args.why) c.args.lo c.args.hi c.args.s.now c.args.self.at c.line.result c.line.ensures.result_value c.in-Malformed.is
-
-pub returns-in-Malformed-decimal : goal.returns-in-Malformed-decimal
-returns-in-Malformed-decimal c = number_malformed c.args.key.now (fault_of c.args.why) c.args.lo c.args.hi c.args.s.now c.args.self.at c.line.result c.line.ensures.result_value c.in-Value.v c.in-Value.is c.decimal.result c.decimal.ensures c.in-Malformed-decimal.is
-
-pub returns-else-hi-n : goal.returns-else-hi-n
-returns-else-hi-n c = number_right c.args.key.now (fault_of c.args.why) c.args.lo c.args.hi c.args.s.now c.args.self.at c.line.result c.line.ensures.result_value c.in-Value.v c.in-Value.is c.decimal.result c.decimal.ensures c.in-Number.n c.in-Number.is (omega arith) c.if-n-lo.false c.if-hi-n.false _ c.after.ensures
+pub returns : goal.returns
+returns c =
+    number_right c.args.key.now _ c.args.lo c.args.hi c.args.s.now c.args.self.at c.line.result c.line.ensures.result_value
+    c.in_ok-value.value c.in_ok-value.ensures.ok_part c.decimal.result (rw (← c.of.ensures) c.decimal.ensures) c.in_ok-n.n c.in_ok-n.ensures.ok_part (omega arith) (omega arith) (omega arith) c.after.result.at c.after.ensures

@@ -1,23 +1,39 @@
--- `sheet::position::Position::text` meets its contract.
-use Rattle.sheet.proofs.LineLaws.{value_inside}
-use Rattle.sheet.proofs.TextLaws.{text_agree}
-use Rattle.sheet.proofs.VerdictLaws.{told_other, told_judged}
-use Rattle.sheet.specs.Keyed.{line_of, field_of}
-use Rattle.sheet.specs.Texts.{decoded}
-use Rattle.sheet.specs.declared.position.Fault.TheVariants as fault
+use Rattle.std.proofs.Common.{arith, sym}
 use Rattle.spec.specs.Basics.{bytes}
 use Rattle.spec.specs.Kinds.{kind_of}
-use Rattle.spec.specs.Sheet.{line, field, hex, text_fits}
-use native.Mathlib.Omega.{arith}
+use Rattle.spec.specs.Sheet.{line, field, hex, wrong_text, text_fits, malformed}
+use Rattle.sheet.specs.Keyed.{line_of, field_of}
+use Rattle.sheet.specs.Texts.{decoded}
+use Rattle.sheet.specs.Lines.{span_of}
+use Rattle.sheet.proofs.Exits.{same_error, nothing}
+use Rattle.sheet.proofs.VerdictLaws.{tested_bad, tested_right, tested_wrong}
 use Rattle.sheet.proofs.position.Position.text.Goals as goal
 
-pub judge_text-verdict-requires : goal.judge_text-verdict-requires
-judge_text-verdict-requires c = let i = value_inside c.long_line.result c.in-Value.v _ c.in-Value.is c.long_line.ensures.value_inside in (i.0, omega arith)
+pub of-requires : goal.of-requires
+of-requires c = let f = rw c.in_ok-text.ensures.ok_part at c.text_line.ensures.text_inside in (f.ordered, omega (arith, f.within))
 
-pub returns-in-Malformed : goal.returns-in-Malformed
+pub returns-in_err-text-clause-result_value : goal.returns-in_err-text-clause-result_value
 unfolding line_of line field_of field
-returns-in-Malformed c = let answer = told_other (bytes "text=") hex decoded text_agree fault.WrongText (text_fits (kind_of c.args.kind).text c.args.flag) c.args.s.now c.args.self.at c.long_line.result c.long_line.ensures.result_value c.in-Malformed.is in record { result_value = answer.0; formed_in = answer.1 }
+returns-in_err-text-clause-result_value c =
+    let p = nothing _ _ _ c.in_err-text.ensures.value in
+    rw (same_error _ _ c.from_residual.ensures.1, p.1)
+    (tested_bad (bytes "text=") hex wrong_text (text_fits (kind_of c.args.kind).text c.args.flag) c.args.s.now c.args.self.at malformed c.args.self.at (rw p.0 at c.text_line.ensures.result_value))
 
-pub returns-in-Value : goal.returns-in-Value
+pub returns-then-not-fits-clause-result_value : goal.returns-then-not-fits-clause-result_value
 unfolding line_of line field_of field
-returns-in-Value c = let answer = told_judged (bytes "text=") hex decoded text_agree fault.WrongText (text_fits (kind_of c.args.kind).text c.args.flag) c.args.s.now c.args.self.at c.long_line.result c.long_line.ensures.result_value c.in-Value.v c.in-Value.is c.long_line.ensures.value_inside c.judge_text-verdict.result c.judge_text-verdict.ensures c.told.result c.told.ensures in record { result_value = answer.0; formed_in = answer.1 }
+returns-then-not-fits-clause-result_value c =
+    tested_wrong (bytes "text=") hex wrong_text (text_fits (kind_of c.args.kind).text c.args.flag) c.args.s.now c.args.self.at
+    (decoded (span_of c.args.s.now c.in_ok-text.text)) _ (rw c.in_ok-text.ensures.ok_part at c.text_line.ensures.result_value)
+    (rw (c.text_rule.ensures, c.of.ensures) at c.if-not-fits.ensures)
+
+pub returns-clause-result_value : goal.returns-clause-result_value
+unfolding line_of line field_of field
+returns-clause-result_value c =
+    tested_right (bytes "text=") hex wrong_text (text_fits (kind_of c.args.kind).text c.args.flag) c.args.s.now c.args.self.at
+    (decoded (span_of c.args.s.now c.in_ok-text.text)) _ (rw c.in_ok-text.ensures.ok_part at c.text_line.ensures.result_value)
+    (rw (c.text_rule.ensures, c.of.ensures) at c.if-not-fits.ensures)
+
+pub returns-clause-formed_in : goal.returns-clause-formed_in
+returns-clause-formed_in c =
+    let f = rw c.in_ok-text.ensures.ok_part at c.text_line.ensures.text_inside in
+    record { ordered = f.ordered; within = f.within; formed = f.formed; fits = sym (rw (c.text_rule.ensures, c.of.ensures) at c.if-not-fits.ensures) }
