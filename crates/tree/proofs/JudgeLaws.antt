@@ -1,6 +1,6 @@
 -- From accepted lines to a judged tree. Assumes nothing.
 use Rattle.std.specs.Prelude.{Result, Ok, Err}
-use mathlib.Core.Path.{◌≡◌, refl, sym, ap, ap₂, ◌∙◌}
+use mathlib.Core.Path.{◌≡◌, refl, sym, ap, ◌∙◌}
 use mathlib.Core.Bool.{◌&&◌}
 use mathlib.Core.List.{List}
 use Prim.Native.Nat.{ℕ, ◌+◌, ◌≤◌, ◌<◌}
@@ -9,7 +9,7 @@ use lib.ListN.{length}
 use lib.Dec.{leb}
 use borrow.Author.Tests.{eq-eqb, ne_eqb}
 use Rattle.spec.specs.Basics.{bytes}
-use Rattle.spec.specs.Sheet.{wrong_count, number, decimal, Judged, accepted, refused, read_sheet}
+use Rattle.spec.specs.Sheet.{wrong_count, decimal, Judged, accepted, refused, read_sheet}
 use Rattle.spec.specs.Tree.{walk_to, whole_tree, judge_tree, judge}
 use Rattle.spec.proofs.reading.Lines.{number_within}
 use Rattle.spec.proofs.reading.Reading.{Sheet, accepted_sheet}
@@ -25,24 +25,24 @@ use Rattle.sheet.specs.declared.faults.SheetRefused.{SheetRefused}
 use Rattle.refusals.specs.Numbers as refusals
 
 -- ---- the lines
-module _ (s : List ℕ) (r : Result (ℕ × Position) SheetRefused) (e : numbered r ≡ answer s (read_sheet s)) where
-  pub lines_refused : (w : SheetRefused) → r ≡ Err w → numbered (Err w) ≡ answer s (judge s)
-  unfolding judge judge_tree answer
-  lines_refused w q = by_lines (read_sheet s) (ap numbered (sym q) ∙ e)
-    where
-      by_lines : (j : Judged) → numbered (Err w) ≡ answer s j → numbered (Err w) ≡ answer s (judge_tree j)
-      by_lines (accepted ns) h = cc
-      by_lines (refused n p) h = h
+pub lines_refused : (s : List ℕ) (w : SheetRefused) → numbered (Err w) ≡ answer s (read_sheet s) → numbered (Err w) ≡ answer s (judge s)
+unfolding judge judge_tree answer
+lines_refused s w e = by_lines (read_sheet s) e
+  where
+    by_lines : (j : Judged) → numbered (Err w) ≡ answer s j → numbered (Err w) ≡ answer s (judge_tree j)
+    by_lines (accepted ns) h = cc
+    by_lines (refused n p) h = h
 
-  pub lines_accepted : (nodes : ℕ) (first : Position) → r ≡ Ok (nodes, first) → Nodes s nodes first
-  unfolding nodes_in answer
-  lines_accepted nodes first q = by_lines (read_sheet s) refl (ap numbered (sym q) ∙ e)
-    where
-      by_lines : (j : Judged) → read_sheet s ≡ j → numbered (Ok (nodes, first)) ≡ answer s j → Nodes s nodes first
-      by_lines (accepted ns) f h =
-          let same : nodes_in s ≡ ns = rw f in
-          record { right = f ∙ ap accepted (sym same); count = rw same (cc); start = cc }
-      by_lines (refused n p) f h = let z : ◌≡◌ {A = ℕ} 0 1 = cc in absurd (omega arith)
+pub lines_accepted : (s : List ℕ) (nodes : ℕ) (first : Position) → numbered (Ok (nodes, first)) ≡ answer s (read_sheet s) → Nodes s nodes first
+unfolding nodes_in answer
+lines_accepted s nodes first e = by_lines (read_sheet s) refl e
+  where
+    by_lines : (j : Judged) → read_sheet s ≡ j → numbered (Ok (nodes, first)) ≡ answer s j → Nodes s nodes first
+    by_lines (accepted ns) f h =
+        let same : nodes_in s ≡ ns = rw f in
+        let pair : ◌≡◌ {A = ℕ × Position} (nodes, first) (length ns, first_node s) = cc in
+        record { right = f ∙ ap accepted (sym same); count = rw same (ap (λ p. p.0) pair); start = ap (λ p. p.1) pair }
+    by_lines (refused n p) f h = let z : ◌≡◌ {A = ℕ} 0 1 = cc in absurd (omega arith)
 
 -- ---- the first node
 module _ (s : List ℕ) (nodes : ℕ) (first : Position) (h : Nodes s nodes first) where

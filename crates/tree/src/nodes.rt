@@ -33,9 +33,10 @@ impl<'a> Tree<'a> {
         let Some(kind) = SyntaxKind::of(node.kind) else {
             unreachable!()
         };
+        let kids = node.kids.of(self.sheet);
         Lines {
             kind,
-            kids: node.kids.of(self.sheet),
+            kids,
             next: node.next,
         }
     }
