@@ -41,11 +41,10 @@ pub fn load(sheet: &[u8], store: &mut [u8], reply: &mut [u8]) -> u32
         return refuse(reply, 21, 0);
     }
     match tree::judge(sheet) {
-        Err(refused) => refuse(
-            reply,
-            refused.why.number(),
-            (refused.place % 4294967296) as u32,
-        ),
+        Err(refused) => {
+            let place = (refused.place % 4294967296) as u32;
+            refuse(reply, refused.why.number(), place)
+        }
         Ok(_) => {
             fill(sheet, store);
             accept(reply, 0)
