@@ -7,9 +7,6 @@ use Rattle.moving.proofs.by_name.count_moved_by_name.Goals as goal
 pub loop-e-init : goal.loop-e-init
 loop-e-init c = counting_none _ _ _
 
-pub count_one-count-requires : goal.count_one-count-requires
-count_one-count-requires c = (c.requires, c.find_name-name.ensures.0)
-
 pub overflow_add-count : goal.overflow_add-count
 overflow_add-count c = omega (arith, counting_low _ _ _ _ _ c.loop-e.invariant _ c.count_one-count.ensures, c.expr_count-e-end.ensures.1, c.loop-e-test.true)
 

@@ -1,13 +1,9 @@
 -- `nameres::resolution::answer_all` meets its contract.
 use Rattle.nameres.proofs.StepLaws.{afresh_none, afresh_more, afresh_done}
-use native.Mathlib.Omega.{arith}
 use Rattle.nameres.proofs.resolution.answer_all.Goals as goal
 
 pub loop-e-init : goal.loop-e-init
 loop-e-init c = afresh_none _
-
-pub answer_afresh-requires : goal.answer_afresh-requires
-answer_afresh-requires c = omega (arith, c.requires, c.loop-e.invariant.answers.wrote.size)
 
 pub loop-e-preserved : goal.loop-e-preserved
 loop-e-preserved c = afresh_more _ _ _ _ c.loop-e.invariant c.answer_afresh.ensures

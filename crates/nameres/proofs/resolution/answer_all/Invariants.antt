@@ -1,5 +1,4 @@
 -- The loop of `nameres::resolution::answer_all`.
-use Prim.Native.Nat.{◌-◌, ◌≤◌}
 use Rattle.nameres.specs.Resolution.{AnswersFirst}
 use Rattle.nameres.proofs.resolution.answer_all.Given as goal
 
