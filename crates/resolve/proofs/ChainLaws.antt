@@ -1,14 +1,16 @@
--- Chains of scopes, and one step along them. Assumes nothing.
-use mathlib.Core.Path.{◌≡◌, refl, sym, ap}
+-- Chains of scopes. Assumes nothing.
+use mathlib.Core.Path.{◌≡◌, refl}
 use mathlib.Core.List.{List, [], ◌∷◌}
 use mathlib.Core.Option.{Option, none, some}
-use Prim.Native.Nat.{ℕ, zero, suc, ◌-◌, ◌<◌}
+use Prim.Native.Nat.{ℕ, zero, suc, ◌+◌, ◌≤◌}
 use native.Mathlib.Omega.{arith}
+use lib.ListN.{length}
 use Rattle.spec.specs.Scopes.{Scope}
 use Rattle.spec.specs.Answer.{scope_at, chain_to, chain}
-use Rattle.module.specs.Ids.{scope_of}
-use Rattle.resolve.specs.Chain.{Outer}
-use Rattle.module.specs.declared.ids.ScopeId as rust_scope_id
+use Rattle.module.specs.declared.ids.ScopeId.{ScopeId}
+use Rattle.resolve.specs.declared.chain.ScopeChain.{ScopeChain}
+use Rattle.resolve.specs.Chain.{scopes_left}
+use Rattle.std.specs.Iterator.{YieldsFirstBy}
 use Rattle.std.specs.Prelude as rust
 
 pub not_some : {A : Type 0} {x : A} → none ≡ some x → ⊥
@@ -20,21 +22,20 @@ module _ (scopes : List Scope) where
   chain_none zero = refl
   chain_none (suc n) = refl
 
-  pub chain_here : (left s : ℕ) → chain_to scopes (suc left) (some s) ≡ s ∷ chain_to scopes left (scope_at scopes s).parent
+  to_low : (n : ℕ) (o : Option ℕ) → length (chain_to scopes n o) ≤ n
   unfolding chain_to
-  chain_here left s = refl
+  to_low zero o = omega arith
+  to_low (suc n) none = omega arith
+  to_low (suc n) (some s) = omega (arith, to_low n (scope_at scopes s).parent)
 
-  pub chain_more : (left : ℕ) (o : Option ℕ) → 0 < left → chain_to scopes left o ≡ chain_to scopes (suc (left - 1)) o
-  chain_more left o h = let e : left ≡ suc (left - 1) = omega arith in ap (λ n. chain_to scopes n o) e
-
-  pub chain_begun : (s : ℕ) → chain scopes s ≡ chain_to scopes (suc s) (some s)
+  pub chain_low : (s : ℕ) → length (chain scopes s) ≤ s + 1
   unfolding chain
-  chain_begun s = refl
+  chain_low s = omega (arith, to_low (suc s) (some s))
 
-  -- ---- the step
-  pub bound_met : (s left : ℕ) → left ≡ 0 → Outer scopes s left rust.None
-  unfolding chain_to scope_of
-  bound_met s left e = record { rest = rw e; low = λ p z. absurd (not_some z) }
+-- ---- one after the other
+module _ (c d : ScopeChain) {r : rust.Option ScopeId} (gives : YieldsFirstBy (λ (i : ScopeId). i.0) scopes_left c r d) where
+  pub one_comes : {i : ScopeId} → r ≡ rust.Some i → scopes_left c ≡ i.0 ∷ scopes_left d
+  one_comes e = rw e at gives
 
-  pub parent_followed : (s left : ℕ) (r : rust.Option rust_scope_id.ScopeId) → (left ≡ 0 → ⊥) → scope_of r ≡ (scope_at scopes s).parent → Outer scopes s left r
-  parent_followed s left r h e = record { rest = ap (chain_to scopes left) (sym e); low = λ p z. omega (arith, h) }
+  pub none_comes : r ≡ rust.None → scopes_left c ≡ []
+  none_comes e = (rw e at gives).0

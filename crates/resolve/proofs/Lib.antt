@@ -5,7 +5,6 @@ pub mod DefinitionLaws
 pub mod SearchLaws
 pub mod WithLaws
 pub mod NameLaws
-pub mod CountLaws
 pub mod WithListLaws
 pub mod NestingLaws
 pub mod ReferenceLaws

@@ -1,17 +1,27 @@
 -- The Withs of a chain, one scope after the other. Assumes nothing.
 use mathlib.Core.Path.{◌≡◌, refl, sym, ap, ◌∙◌}
-use mathlib.Core.Bool.{true, false}
+use mathlib.Core.Bool.{Bool, true, false, cond, ◌||◌}
 use mathlib.Core.List.{List, [], ◌∷◌, ◌++◌}
 use mathlib.Core.Option.{none, some}
-use Prim.Native.Nat.{ℕ, suc, ◌-◌, ◌<◌}
+use Prim.Native.Nat.{ℕ, suc, ◌+◌, ◌≤◌, ◌<◌}
+use native.Mathlib.Omega.{arith}
+use lib.Dec.{ltb}
+use borrow.Author.Tests.{ltb-true, ltb-false}
+use lib.ListN.{length, length-append, get_or-eq_default}
+use Rattle.words.specs.Words.{word}
 use Rattle.spec.specs.Scopes.{ScopeKind, definitions, with_expr, Scope}
 use Rattle.spec.specs.Answer.{scope_at, chain_to, chain, if_with, withs_of}
-use Rattle.module.specs.declared.ids.ScopeId.{ScopeId}
-use Rattle.module.specs.Ids.{scope_of}
-use Rattle.kept.specs.Walks.{with_of}
-use Rattle.resolve.specs.Chain.{Outer}
+use Rattle.module.specs.declared.ids.ExprId.{ExprId}
+use Rattle.module.specs.Ids.{expr_of}
+use Rattle.layout.specs.Layout.{scope_limit, scope_count}
+use Rattle.layout.specs.Keeps.{scopes_in}
+use Rattle.layout.proofs.RowLaws.{cap_lim}
+use Rattle.kept.specs.Walks.{with_of, root}
+use Rattle.kept.proofs.ScopeReads.{length_scopes}
 use Rattle.resolve.specs.Withs.{some_of}
-use Rattle.resolve.proofs.ChainLaws.{not_some, chain_none, chain_here, chain_more, chain_begun}
+use Rattle.resolve.proofs.ChainLaws.{not_some, chain_none, chain_low}
+use Rattle.std.specs.List.{list_any, filter}
+use Rattle.std.specs.Option.{is_some}
 use Rattle.std.specs.Prelude as rust
 
 -- ---- one scope
@@ -25,45 +35,61 @@ unfolding with_of if_with
 with_none (definitions xs) h = refl
 with_none (with_expr f) h = absurd (not_some h)
 
+pub own_with : (k : ScopeKind) (r : rust.Option ExprId) → expr_of r ≡ with_of k → is_some r ≡ some_of (if_with k)
+unfolding expr_of with_of some_of if_with
+own_with (definitions xs) rust.None h = refl
+own_with (definitions xs) (rust.Some x) h = absurd (not_some (sym h))
+own_with (with_expr e) rust.None h = absurd (not_some h)
+own_with (with_expr e) (rust.Some x) h = refl
+
+own_low : (k : ScopeKind) → length (if_with k) ≤ 1
+unfolding if_with
+own_low (definitions xs) = omega arith
+own_low (with_expr e) = omega arith
+
+either : (k : ScopeKind) (es : List ℕ) → (some_of (if_with k) || some_of es) ≡ some_of (if_with k ++ es)
+unfolding some_of if_with
+either (definitions xs) es = refl
+either (with_expr e) es = refl
+
+counted : (k : ScopeKind) (s : ℕ) (ss es : List ℕ) → length ss ≡ length es → length (cond (some_of (if_with k)) (s ∷ ss) ss) ≡ length (if_with k ++ es)
+unfolding some_of if_with
+counted (definitions xs) s ss es h = h
+counted (with_expr e) s ss es h = ap suc h
+
+-- ---- all of a chain
 module _ (scopes : List Scope) where
-  -- those of the scope i and of the scopes around it, of which `left` may be followed
-  abbrev pub Around : ℕ → ℕ → List ℕ
-  Around left i = withs_of scopes (chain_to scopes (suc left) (some i))
+  abbrev pub with_at : ℕ → Bool
+  with_at i = some_of (if_with (scope_at scopes i).kind)
 
-  pub around : (a : ℕ) → withs_of scopes (chain scopes a) ≡ Around a a
-  around a = ap (withs_of scopes) (chain_begun scopes a)
+  pub any_with : (ss : List ℕ) → list_any with_at ss ≡ some_of (withs_of scopes ss)
+  unfolding withs_of some_of
+  any_with [] = refl
+  any_with (s ∷ ss) = ap (λ (b : Bool). with_at s || b) (any_with ss) ∙ either (scope_at scopes s).kind (withs_of scopes ss)
 
-  module _ {left i : ℕ} {next : rust.Option ScopeId} (o : Outer scopes i left next) where
-    step : Around left i ≡ if_with (scope_at scopes i).kind ++ withs_of scopes (chain_to scopes left (scope_of next))
-    unfolding withs_of
-    step = ap (withs_of scopes) (chain_here scopes left i ∙ ap (λ (ss : List ℕ). i ∷ ss) o.rest)
+  pub count_with : (ss : List ℕ) → length (filter with_at ss) ≡ length (withs_of scopes ss)
+  unfolding withs_of
+  count_with [] = refl
+  count_with (s ∷ ss) = counted (scope_at scopes s).kind s _ _ (count_with ss)
 
-    pub around_last : next ≡ rust.None → Around left i ≡ if_with (scope_at scopes i).kind ++ []
-    unfolding withs_of scope_of
-    around_last q =
-        step ∙ ap (λ (n : rust.Option ScopeId). if_with (scope_at scopes i).kind ++ withs_of scopes (chain_to scopes left (scope_of n))) q
-        ∙ ap (λ (ss : List ℕ). if_with (scope_at scopes i).kind ++ withs_of scopes ss) (chain_none scopes left)
+  withs_low : (ss : List ℕ) → length (withs_of scopes ss) ≤ length ss
+  unfolding withs_of
+  withs_low [] = omega arith
+  withs_low (s ∷ ss) = omega (arith, withs_low ss, own_low (scope_at scopes s).kind, length-append (if_with (scope_at scopes s).kind) (withs_of scopes ss))
 
-    pub outer_low : {p : ScopeId} → next ≡ rust.Some p → 0 < left
-    unfolding scope_of
-    outer_low {p} q = o.low p.0 (ap scope_of q)
+  -- a number that is no scope's
+  past_root : (a : ℕ) → length scopes ≤ a → scope_at scopes a ≡ root
+  unfolding scope_at
+  past_root a h = get_or-eq_default scopes root {n = a} h
 
-    pub around_next : {p : ScopeId} → next ≡ rust.Some p → Around left i ≡ if_with (scope_at scopes i).kind ++ Around (left - 1) p.0
-    unfolding scope_of
-    around_next {p} q =
-        step ∙ ap (λ (n : rust.Option ScopeId). if_with (scope_at scopes i).kind ++ withs_of scopes (chain_to scopes left (scope_of n))) q
-        ∙ ap (λ (ss : List ℕ). if_with (scope_at scopes i).kind ++ withs_of scopes ss) (chain_more scopes left (some p.0) (outer_low q))
+  none_past : (a : ℕ) → length scopes ≤ a → length (withs_of scopes (chain scopes a)) ≡ 0
+  unfolding withs_of if_with chain chain_to
+  none_past a h = rw (past_root a h, chain_none scopes a) refl
 
-  -- ---- whether there is any
-  module _ (a left i : ℕ) (asked : some_of (Around a a) ≡ some_of (Around left i)) where
-    pub with_seen : {e : ℕ} → some e ≡ with_of (scope_at scopes i).kind → true ≡ some_of (withs_of scopes (chain scopes a))
-    unfolding some_of withs_of
-    with_seen h = sym (ap some_of (around a) ∙ asked ∙ ap some_of (ap (withs_of scopes) (chain_here scopes left i)) ∙ rw (with_is (scope_at scopes i).kind h))
-
-    module _ (n : none ≡ with_of (scope_at scopes i).kind) {next : rust.Option ScopeId} (o : Outer scopes i left next) where
-      pub none_seen : next ≡ rust.None → false ≡ some_of (withs_of scopes (chain scopes a))
-      unfolding some_of
-      none_seen q = sym (ap some_of (around a) ∙ asked ∙ ap some_of (around_last o q) ∙ rw (with_none (scope_at scopes i).kind n))
-
-      pub none_yet : {p : ScopeId} → next ≡ rust.Some p → some_of (Around a a) ≡ some_of (Around (left - 1) p.0)
-      none_yet q = asked ∙ ap some_of (around_next o q) ∙ rw (with_none (scope_at scopes i).kind n)
+pub few_withs : (s : List ℕ) (a : ℕ) → length (withs_of (scopes_in s).scopes (chain (scopes_in s).scopes a)) ≤ scope_limit
+few_withs s a = go (ltb a (length (scopes_in s).scopes)) refl
+  where
+    go : (b : Bool) → ltb a (length (scopes_in s).scopes) ≡ b → length (withs_of (scopes_in s).scopes (chain (scopes_in s).scopes a)) ≤ scope_limit
+    go true h =
+        omega (arith, ltb-true a (length (scopes_in s).scopes) h, length_scopes s, cap_lim (word s scope_count) scope_limit, withs_low (scopes_in s).scopes (chain (scopes_in s).scopes a), chain_low (scopes_in s).scopes a)
+    go false h = omega (arith, none_past (scopes_in s).scopes a (ltb-false a (length (scopes_in s).scopes) h))

@@ -1,25 +1,12 @@
 -- The Withs around a scope or an expression, counted and listed.
-use Rattle.std.specs.Prelude.{◌≡◌, Bool, true, false, List, [], ◌∷◌, ℕ, ◌+◌, ◌-◌, ◌*◌, ◌≤◌, ◌<◌, length}
+use Rattle.std.specs.Prelude.{◌≡◌, Bool, true, false, List, [], ◌∷◌, ℕ, ◌*◌, ◌≤◌, ◌<◌, length}
 use Rattle.spec.specs.Basics.{ExprId}
-use Rattle.spec.specs.Scopes.{ScopeKind}
-use Rattle.spec.specs.Answer.{if_with}
 use Rattle.layout.specs.Rows.{set_all}
 
 -- whether a list has any
 unfoldable pub some_of : List ExprId → Bool
 some_of [] = false
 some_of (e ∷ es) = true
-
--- A buffer has room for n numbers, of which the last m are still to be written, that of a scope among them.
-pub record Room (k : ScopeKind) (n m : ℕ) (b : List ℕ) : Type 0 where
-  pub all : 4 * n ≤ length b
-  pub part : m ≤ n
-  pub own : length (if_with k) ≤ m
-
--- The With of a scope, where it has one, was written into the buffer b, which is c now; r are left.
-pub record WroteOne (k : ScopeKind) (n m : ℕ) (b : List ℕ) (r : ℕ) (c : List ℕ) : Type 0 where
-  pub wrote : c ≡ set_all b (4 * (n - m)) (if_with k)
-  pub left : r + length (if_with k) ≡ m
 
 -- How many there are, r, was told; they stand in the buffer b, which is c now, as numbers of four bytes, if it has room
 -- for all of them.

@@ -1,18 +1,58 @@
-// The scopes around a scope.
+// A scope and the scopes around it, from the inner one outwards.
 ghost use Rattle.layout.specs.Layout.{Long};
-ghost use Rattle.layout.specs.Keeps.{scopes_in};
-ghost use Rattle.resolve.specs.Chain.{Outer};
 
 use kept::scope_parent;
 use module::ScopeId;
 
-// The scope around s, where one more may be followed: `left` says how many.
-pub fn outer(store: &[u8], s: ScopeId, left: u32) -> Option<ScopeId>
-    requires { Long store.now }
-    ensures { Outer (scopes_in store.now).scopes s.0 left result }
-{
-    if left == 0 {
-        return None;
+// The chain of a scope, as docs/RULES.md calls it, one scope after the other.
+#[derive(Clone, Copy)]
+pub struct ScopeChain<'a> {
+    store: &'a [u8],
+    next: Option<ScopeId>,
+    // How many more may follow the next one.
+    left: u32,
+    ghost long: { Long store.now },
+}
+
+impl<'a> ScopeChain<'a> {
+    ghost use Rattle.std.specs.Prelude.{◌≡◌};
+    ghost use Rattle.spec.specs.Answer.{chain};
+    ghost use Rattle.layout.specs.Keeps.{scopes_in};
+    ghost use Rattle.resolve.specs.Chain.{scopes_left};
+
+    #[tactic(auto, unfolding(crate::specs::Chain::scopes_left, spec::specs::Answer::chain, module::specs::Ids::scope_of))]
+    // From s on. A parent has a lower number in a sound store: so no more are followed than the number of s, and every
+    // walk ends, also where parents go round.
+    pub fn new(store: &'a [u8], s: ScopeId) -> ScopeChain<'a>
+        requires { Long store.now }
+        ensures { scopes_left result ≡ chain (scopes_in store.now).scopes s.0 }
+    {
+        ScopeChain {
+            store,
+            next: Some(s),
+            left: s.0,
+        }
     }
-    scope_parent(store, s)
+}
+
+impl<'a> Iterator for ScopeChain<'a> {
+    ghost use Rattle.std.specs.Iterator.{YieldsFirstBy, item_count};
+    ghost use Rattle.resolve.specs.Chain.{scopes_left};
+
+    type Item = ScopeId;
+
+    ghost next_gives = { YieldsFirstBy (λ s. s.0) scopes_left };
+
+    ghost remaining = { item_count scopes_left };
+
+    #[tactic(auto, using(crate::proofs::ChainLaws::chain_none), unfolding(crate::specs::Chain::scopes_left, spec::specs::Answer::chain_to, module::specs::Ids::scope_of))]
+    fn next(&mut self) -> Option<ScopeId> {
+        let s = self.next?;
+        self.next = None;
+        if self.left != 0 {
+            self.next = scope_parent(self.store, s);
+            self.left -= 1;
+        }
+        Some(s)
+    }
 }

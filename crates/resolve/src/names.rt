@@ -38,13 +38,8 @@ fn bound_or_withs(store: &[u8], s: ScopeId, found: Option<(ScopeId, NameId)>) ->
 {
     match found {
         Some((_, x)) => Answer::Definition(x),
-        None => {
-            if has_with(store, s) {
-                Answer::Withs
-            } else {
-                Answer::Unresolved
-            }
-        }
+        None if has_with(store, s) => Answer::Withs,
+        None => Answer::Unresolved,
     }
 }
 

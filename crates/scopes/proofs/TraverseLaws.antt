@@ -104,7 +104,7 @@ lambda_walked e x p {b} {scope} {i} {s} {s1} {s2} {t} o d c =
     (children_then (λ m. below m e i b) (λ m. below_grows m e i b) d' c')
 
 -- ---- the set, the path and the default of a Select
-pub path_walked : (e : ExprId) {set : ExprId} (d : Option ExprId) (handed : List ExprId) {scope : ScopeId} {s u v t : List ℕ} → Follows e scope (set ∷ []) s u → Follows e scope (picked Children (items_at_expr u e)) u v
-    → handed ≡ one_or_none d → Follows e scope handed v t → Follows e scope (set ∷ (children (items_at_expr s e) ++ one_or_none d)) s t
+pub path_walked : (e : ExprId) {set : ExprId} (d : Option ExprId) {scope : ScopeId} {s u v t : List ℕ} → Follows e scope (set ∷ []) s u → Follows e scope (picked Children (items_at_expr u e)) u v
+    → Follows e scope (one_or_none d) v t → Follows e scope (set ∷ (children (items_at_expr s e) ++ one_or_none d)) s t
 unfolding picked
-path_walked e d handed {scope} {s} {u} {v} {t} x y q z = follows_then x (follows_then (later children e x.all.wrote x.all.still y) (subst (λ (cs : List ExprId). Follows e scope cs v t) q z))
+path_walked e d x y z = follows_then x (follows_then (later children e x.all.wrote x.all.still y) z)

@@ -1,12 +1,13 @@
 // Names wait for the scope that a function or bindings may open, and it is opened if there is one.
-ghost use Rattle.std.specs.Prelude.{◌≡◌, [], ◌∷◌, ◌++◌, ◌≤◌};
+ghost use Rattle.std.specs.Prelude.{◌≡◌, [], ◌∷◌, ℕ, ◌++◌, ◌≤◌};
+ghost use Rattle.spec.specs.Basics.{Text};
 ghost use Rattle.spec.specs.Scopes.{one_or_none, is_definition, field_names, pat_fields, defined, open_for};
 ghost use Rattle.module.specs.Ids.{name_of};
 ghost use Rattle.module.specs.Kinds.{kind_of};
 ghost use Rattle.layout.specs.Layout.{Long};
 ghost use Rattle.layout.specs.Exprs.{statics};
 ghost use Rattle.layout.specs.States.{module_in};
-ghost use Rattle.rows.specs.Decoded.{pattern_with};
+ghost use Rattle.rows.specs.Decoded.{item_with, pattern_with};
 ghost use Rattle.rows.specs.Readers.{items_at_expr, item_at_expr};
 ghost use Rattle.kept.specs.Walks.{Walked, waiting_names};
 ghost use Rattle.scopes.specs.declared.enters.Names.TheVariants as names_of;
@@ -27,58 +28,25 @@ pub enum Names {
 }
 
 // Names of a plain set are none.
+#[tactic(auto, unfolding(spec::specs::Scopes::is_definition, module::specs::Kinds::kind_of))]
 fn is_definition(kind: NameKind) -> bool
     ensures { result ≡ is_definition (kind_of kind) }
 {
-    match kind {
-        NameKind::LetIn => true,
-        NameKind::PlainAttrset => false,
-        NameKind::RecAttrset => true,
-        NameKind::Param => true,
-        NameKind::PatField => true,
-    }
+    !matches!(kind, NameKind::PlainAttrset)
 }
 
-fn field_name(store: &[u8], e: ExprId, i: u32) -> Option<NameId>
+// The name that an item enters.
+#[tactic(auto, unfolding(crate::specs::Entering::entered, rows::specs::Decoded::item_with, layout::specs::Exprs::fields, layout::specs::Exprs::statics, spec::specs::Scopes::field_names, spec::specs::Scopes::defined, spec::specs::Scopes::one_or_none, module::specs::Ids::name_of))]
+fn name_entered(store: &[u8], item: Item, names: Names) -> Option<NameId>
     requires { Long store.now }
-    ensures { one_or_none (name_of result) ≡ entered names_of.Fields (module_in store.now) (item_at_expr store.now e.0 i ∷ []) }
+    ensures { (texts : ℕ → Text) → one_or_none (name_of result) ≡ entered names (module_in store.now) (item_with texts item ∷ []) }
 {
-    match read_item(store, e, i) {
-        Item::Child(_) => None,
-        Item::Text(_) => None,
-        Item::Field(x, _) => x,
-        Item::Static(_, _) => None,
-        Item::Dynamic(_, _) => None,
-    }
-}
-
-fn defined_name(store: &[u8], e: ExprId, i: u32) -> Option<NameId>
-    requires { Long store.now }
-    ensures { one_or_none (name_of result) ≡ entered names_of.Definitions (module_in store.now) (item_at_expr store.now e.0 i ∷ []) }
-{
-    match read_item(store, e, i) {
-        Item::Child(_) => None,
-        Item::Text(_) => None,
-        Item::Field(_, _) => None,
-        Item::Static(x, _) => {
-            if is_definition(name_kind_of(store, x)) {
-                Some(x)
-            } else {
-                None
-            }
-        }
-        Item::Dynamic(_, _) => None,
-    }
-}
-
-// The name that the item with the number i of the expression e enters.
-fn name_entered(store: &[u8], e: ExprId, i: u32, names: Names) -> Option<NameId>
-    requires { Long store.now }
-    ensures { one_or_none (name_of result) ≡ entered names (module_in store.now) (item_at_expr store.now e.0 i ∷ []) }
-{
-    match names {
-        Names::Fields => field_name(store, e, i),
-        Names::Definitions => defined_name(store, e, i),
+    match (names, item) {
+        (Names::Fields, Item::Field(x, _)) => x,
+        (Names::Definitions, Item::Static(x, _)) if is_definition(name_kind_of(store, x)) => Some(
+            x,
+        ),
+        _ => None,
     }
 }
 
@@ -87,13 +55,11 @@ fn enter_maybe(store: &mut [u8], n: u32, x: Option<NameId>) -> u32
     requires { Long store.old × (n ≤ 65536) }
     ensures { Enters n (one_or_none (name_of x)) store.old result store.new }
 {
-    match x {
-        Some(y) => {
-            enter_name(store, n, y);
-            n + 1
-        }
-        None => n,
-    }
+    let Some(x) = x else {
+        return n;
+    };
+    enter_name(store, n, x);
+    n + 1
 }
 
 // After the first n names those of the items of e wait.
@@ -103,7 +69,7 @@ fn enter_items(store: &mut [u8], e: ExprId, names: Names, n: u32) -> u32
 {
     let mut next = n;
     for i in 0..item_count(store, e) {
-        let x = name_entered(store, e, i, names);
+        let x = name_entered(store, read_item(store, e, i), names);
         next = enter_maybe(store, next, x);
     }
     next
@@ -116,8 +82,7 @@ fn enter_fields(store: &mut [u8], e: ExprId, p: Pattern, n: u32) -> u32
 {
     match p {
         Pattern::Absent => n,
-        Pattern::Closed => enter_items(store, e, Names::Fields, n),
-        Pattern::Ellipsis => enter_items(store, e, Names::Fields, n),
+        Pattern::Closed | Pattern::Ellipsis => enter_items(store, e, Names::Fields, n),
     }
 }
 

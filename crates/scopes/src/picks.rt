@@ -1,16 +1,18 @@
-// Which expressions the items of an expression hand on to a walk: one pass over the items for each of
-// the lists that they stand for.
-ghost use Rattle.std.specs.Prelude.{◌≡◌, [], ◌∷◌};
-ghost use Rattle.spec.specs.Scopes.{one_or_none};
-ghost use Rattle.module.specs.Ids.{expr_of};
-ghost use Rattle.layout.specs.Layout.{Long};
-ghost use Rattle.rows.specs.Readers.{item_at_expr};
-ghost use Rattle.scopes.specs.declared.picks.Pass.TheVariants as pass_of;
+// Which expressions an item of an expression hands on to a walk: one pass over the items for each of the lists that they
+// stand for.
+#![tactic(auto, unfolding(crate::specs::Picking::picks_of, crate::specs::Picking::picked, rows::specs::Decoded::item_with, layout::specs::Exprs::children, layout::specs::Exprs::fields, layout::specs::Exprs::statics, layout::specs::Exprs::dynamics, spec::specs::Scopes::field_defaults, spec::specs::Scopes::inherited, spec::specs::Scopes::plain_values, spec::specs::Scopes::keys_and_values, spec::specs::Scopes::one_or_none, module::specs::Ids::expr_of, spec::specs::Scopes::if_inherited, spec::specs::Scopes::if_plain, module::specs::Ids::binding_of,))]
+
+ghost use Rattle.std.specs.Prelude.{◌≡◌, [], ◌∷◌, ℕ};
+ghost use Rattle.spec.specs.Basics.{Text};
+ghost use Rattle.spec.specs.Scopes.{one_or_none, if_inherited, if_plain};
+ghost use Rattle.module.specs.Ids.{expr_of, binding_of};
+ghost use Rattle.rows.specs.Decoded.{item_with};
 ghost use Rattle.scopes.specs.Picking.{picks_of, picked};
 
 use module::{BindingValue, ExprId, Item};
-use rows::read_item;
 
+// A pass is no closure that the walk is given: the walkers call each other, and no proof can be stated of functions in
+// such a cycle that differ in their type parameters.
 #[derive(Clone, Copy)]
 pub enum Pass {
     // Items of a list, attributes of a path, interpolated parts, sources of inherits.
@@ -25,108 +27,36 @@ pub enum Pass {
     Dynamics,
 }
 
-#[derive(Clone, Copy)]
-pub enum Picks {
-    Nothing,
-    One(ExprId),
-    Two(ExprId, ExprId),
-}
-
-// An expression that may be absent.
-pub fn maybe(e: Option<ExprId>) -> Picks
-    ensures { picks_of result ≡ one_or_none (expr_of e) }
+// The value of `inherit x;`.
+fn inherited(v: BindingValue) -> Option<ExprId>
+    ensures { one_or_none (expr_of result) ≡ if_inherited (binding_of v) }
 {
-    match e {
-        Some(c) => Picks::One(c),
-        None => Picks::Nothing,
+    match v {
+        BindingValue::Inherit(c) => Some(c),
+        _ => None,
     }
 }
 
-fn child_of(store: &[u8], e: ExprId, i: u32) -> Picks
-    requires { Long store.now }
-    ensures { picks_of result ≡ picked pass_of.Children (item_at_expr store.now e.0 i ∷ []) }
+// The value of `x = ..;`. The Select of an inherit with a source is not walked.
+fn plain(v: BindingValue) -> Option<ExprId>
+    ensures { one_or_none (expr_of result) ≡ if_plain (binding_of v) }
 {
-    match read_item(store, e, i) {
-        Item::Child(c) => Picks::One(c),
-        Item::Text(_) => Picks::Nothing,
-        Item::Field(_, _) => Picks::Nothing,
-        Item::Static(_, _) => Picks::Nothing,
-        Item::Dynamic(_, _) => Picks::Nothing,
+    match v {
+        BindingValue::Expr(c) => Some(c),
+        _ => None,
     }
 }
 
-fn default_of(store: &[u8], e: ExprId, i: u32) -> Picks
-    requires { Long store.now }
-    ensures { picks_of result ≡ picked pass_of.Defaults (item_at_expr store.now e.0 i ∷ []) }
+// What an item hands on in a pass: nothing, one expression, or a key and its value.
+pub fn pick(item: Item, pass: Pass) -> (Option<ExprId>, Option<ExprId>)
+    ensures { (texts : ℕ → Text) → picks_of result ≡ picked pass (item_with texts item ∷ []) }
 {
-    match read_item(store, e, i) {
-        Item::Child(_) => Picks::Nothing,
-        Item::Text(_) => Picks::Nothing,
-        Item::Field(_, d) => maybe(d),
-        Item::Static(_, _) => Picks::Nothing,
-        Item::Dynamic(_, _) => Picks::Nothing,
-    }
-}
-
-fn inherited_of(store: &[u8], e: ExprId, i: u32) -> Picks
-    requires { Long store.now }
-    ensures { picks_of result ≡ picked pass_of.Inherited (item_at_expr store.now e.0 i ∷ []) }
-{
-    match read_item(store, e, i) {
-        Item::Child(_) => Picks::Nothing,
-        Item::Text(_) => Picks::Nothing,
-        Item::Field(_, _) => Picks::Nothing,
-        Item::Static(_, v) => match v {
-            BindingValue::Expr(_) => Picks::Nothing,
-            BindingValue::Inherit(c) => Picks::One(c),
-            BindingValue::InheritFrom(_) => Picks::Nothing,
-        },
-        Item::Dynamic(_, _) => Picks::Nothing,
-    }
-}
-
-// The Select of an inherit with a source is not walked.
-fn value_of(store: &[u8], e: ExprId, i: u32) -> Picks
-    requires { Long store.now }
-    ensures { picks_of result ≡ picked pass_of.Values (item_at_expr store.now e.0 i ∷ []) }
-{
-    match read_item(store, e, i) {
-        Item::Child(_) => Picks::Nothing,
-        Item::Text(_) => Picks::Nothing,
-        Item::Field(_, _) => Picks::Nothing,
-        Item::Static(_, v) => match v {
-            BindingValue::Expr(c) => Picks::One(c),
-            BindingValue::Inherit(_) => Picks::Nothing,
-            BindingValue::InheritFrom(_) => Picks::Nothing,
-        },
-        Item::Dynamic(_, _) => Picks::Nothing,
-    }
-}
-
-fn dynamic_of(store: &[u8], e: ExprId, i: u32) -> Picks
-    requires { Long store.now }
-    ensures { picks_of result ≡ picked pass_of.Dynamics (item_at_expr store.now e.0 i ∷ []) }
-{
-    match read_item(store, e, i) {
-        Item::Child(_) => Picks::Nothing,
-        Item::Text(_) => Picks::Nothing,
-        Item::Field(_, _) => Picks::Nothing,
-        Item::Static(_, _) => Picks::Nothing,
-        Item::Dynamic(k, v) => Picks::Two(k, v),
-    }
-}
-
-// What the item with the number i of the expression e hands on in a pass. Each pass reads the item by
-// itself, so that in the compiled code its test is one of the item's tag.
-pub fn pick_item(store: &[u8], e: ExprId, i: u32, pass: Pass) -> Picks
-    requires { Long store.now }
-    ensures { picks_of result ≡ picked pass (item_at_expr store.now e.0 i ∷ []) }
-{
-    match pass {
-        Pass::Children => child_of(store, e, i),
-        Pass::Defaults => default_of(store, e, i),
-        Pass::Inherited => inherited_of(store, e, i),
-        Pass::Values => value_of(store, e, i),
-        Pass::Dynamics => dynamic_of(store, e, i),
+    match (pass, item) {
+        (Pass::Children, Item::Child(c)) => (Some(c), None),
+        (Pass::Defaults, Item::Field(_, d)) => (d, None),
+        (Pass::Inherited, Item::Static(_, v)) => (inherited(v), None),
+        (Pass::Values, Item::Static(_, v)) => (plain(v), None),
+        (Pass::Dynamics, Item::Dynamic(k, v)) => (Some(k), Some(v)),
+        _ => (None, None),
     }
 }

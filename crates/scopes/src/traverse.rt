@@ -9,14 +9,14 @@ ghost use Rattle.layout.specs.Layout.{Long};
 ghost use Rattle.layout.specs.Exprs.{children, bindings};
 ghost use Rattle.rows.specs.Decoded.{pattern_with};
 ghost use Rattle.rows.specs.Readers.{items_at_expr};
-ghost use Rattle.scopes.specs.Picking.{picks_of, picked};
+ghost use Rattle.scopes.specs.Picking.{picked};
 ghost use Rattle.scopes.specs.Walking.{below, Walks, Follows};
 
 use crate::enters::{open_for_bindings, open_for_lambda};
-use crate::picks::{Pass, Picks, maybe, pick_item};
+use crate::picks::{Pass, pick};
 use kept::{open_with, place_expr};
 use module::{Expr, ExprId, NameId, Pattern, ScopeId};
-use rows::{item_count, read_expr};
+use rows::{item_count, read_expr, read_item};
 
 // The expression e stands in the scope, and so do its children, but for those in a scope that it opens.
 // A With opens one for its body alone; an Assert's body is walked before its condition.
@@ -27,25 +27,25 @@ pub fn traverse_expr(store: &mut [u8], e: ExprId, scope: ScopeId)
 {
     place_expr(store, e, scope);
     match read_expr(store, e) {
-        Expr::Missing => {}
+        Expr::Missing | Expr::Literal(_) | Expr::Reference(_) => {}
         Expr::Apply(f, a) => pair(store, e, f, a, scope),
         Expr::IfThenElse(c, t, f) => {
             child(store, e, c, scope);
             pair(store, e, t, f, scope);
         }
-        Expr::Literal(_) => {}
         Expr::Lambda(x, p, b) => traverse_lambda(store, e, x, p, b, scope),
         Expr::LetIn(b) => {
             let inside = traverse_bindings(store, e, scope);
             child(store, e, b, inside);
         }
-        Expr::List => walk_items(store, e, Pass::Children, scope),
+        Expr::List | Expr::StringInterpolation | Expr::PathInterpolation => {
+            walk_items(store, e, Pass::Children, scope);
+        }
         Expr::BinOp(l, r, _) => pair(store, e, l, r, scope),
         Expr::AttrSet(_) => {
             traverse_bindings(store, e, scope);
         }
         Expr::UnaryOp(_, x) => child(store, e, x, scope),
-        Expr::Reference(_) => {}
         Expr::Select(s, d) => walk_path(store, e, s, d, scope),
         Expr::HasAttr(s) => walk_path(store, e, s, None, scope),
         Expr::With(n, b) => {
@@ -54,8 +54,6 @@ pub fn traverse_expr(store: &mut [u8], e: ExprId, scope: ScopeId)
             child(store, e, b, inside);
         }
         Expr::Assert(c, b) => pair(store, e, b, c, scope),
-        Expr::StringInterpolation => walk_items(store, e, Pass::Children, scope),
-        Expr::PathInterpolation => walk_items(store, e, Pass::Children, scope),
     }
 }
 
@@ -99,8 +97,7 @@ fn walk_defaults(store: &mut [u8], e: ExprId, p: Pattern, scope: ScopeId)
 {
     match p {
         Pattern::Absent => {}
-        Pattern::Closed => walk_items(store, e, Pass::Defaults, scope),
-        Pattern::Ellipsis => walk_items(store, e, Pass::Defaults, scope),
+        Pattern::Closed | Pattern::Ellipsis => walk_items(store, e, Pass::Defaults, scope),
     }
 }
 
@@ -112,7 +109,7 @@ fn walk_path(store: &mut [u8], e: ExprId, set: ExprId, d: Option<ExprId>, scope:
 {
     child(store, e, set, scope);
     walk_items(store, e, Pass::Children, scope);
-    walk_picks(store, e, maybe(d), scope);
+    child_if_any(store, e, d, scope);
 }
 
 // What the items of e hand on in a pass.
@@ -122,21 +119,9 @@ fn walk_items(store: &mut [u8], e: ExprId, pass: Pass, scope: ScopeId)
     ensures { Follows e.0 scope.0 (picked pass (items_at_expr store.old e.0)) store.old store.new }
 {
     for i in 0..item_count(store, e) {
-        let handed = pick_item(store, e, i, pass);
-        walk_picks(store, e, handed, scope);
-    }
-}
-
-// What one item hands on.
-#[cycle(traversal)]
-fn walk_picks(store: &mut [u8], e: ExprId, handed: Picks, scope: ScopeId)
-    requires { Long store.old }
-    ensures { Follows e.0 scope.0 (picks_of handed) store.old store.new }
-{
-    match handed {
-        Picks::Nothing => {}
-        Picks::One(c) => child(store, e, c, scope),
-        Picks::Two(a, b) => pair(store, e, a, b, scope),
+        let (first, second) = pick(read_item(store, e, i), pass);
+        child_if_any(store, e, first, scope);
+        child_if_any(store, e, second, scope);
     }
 }
 
@@ -148,6 +133,17 @@ fn pair(store: &mut [u8], e: ExprId, a: ExprId, b: ExprId, scope: ScopeId)
 {
     child(store, e, a, scope);
     child(store, e, b, scope);
+}
+
+// A child that may be absent.
+#[cycle(traversal)]
+fn child_if_any(store: &mut [u8], e: ExprId, c: Option<ExprId>, scope: ScopeId)
+    requires { Long store.old }
+    ensures { Follows e.0 scope.0 (one_or_none (expr_of c)) store.old store.new }
+{
+    if let Some(c) = c {
+        child(store, e, c, scope);
+    }
 }
 
 // A child whose number is below its owner's.

@@ -1,26 +1,15 @@
 -- `resolve::nesting::surrounds` meets its contract.
-use Rattle.resolve.proofs.NestingLaws.{from_itself, met, unmet, unmet_yet}
-use Rattle.resolve.proofs.WithLaws.{outer_low}
-use native.Mathlib.Omega.{arith}
+use Rattle.std.proofs.Common.{rules}
+use Rattle.std.proofs.lemmas.Iterator.Consumers.{YieldsList-from_first}
+use Rattle.std.proofs.lemmas.Iterator.Search.{any_from_yields_List}
+use Rattle.resolve.proofs.NestingLaws.{any_is}
+use Rattle.resolve.specs.Chain.{scopes_left}
+use borrow.Author.Tests.{tests}
+use lib.Dec.{eqb}
+use mathlib.Core.Path.{◌∙◌}
 use Rattle.resolve.proofs.nesting.surrounds.Goals as goal
 
-pub loop-at-init : goal.loop-at-init
-loop-at-init c = from_itself _ _ _
-
-pub returns-then-held-at : goal.returns-then-held-at
-returns-then-held-at c = met _ _ _ _ _ c.loop-at.invariant c.if-held-at.true
-
-pub outer-requires : goal.outer-requires
-outer-requires c = c.requires
-
-pub returns-in_default : goal.returns-in_default
-returns-in_default c = unmet _ _ _ _ _ c.loop-at.invariant c.if-held-at.false c.outer.ensures c.in_default.is
-
-pub overflow_sub-left : goal.overflow_sub-left
-overflow_sub-left c = omega (arith, outer_low _ c.outer.ensures c.in-Some.is)
-
-pub loop-at-smaller : goal.loop-at-smaller
-loop-at-smaller c = omega (arith, outer_low _ c.outer.ensures c.in-Some.is)
-
-pub loop-at-preserved : goal.loop-at-preserved
-loop-at-preserved c = unmet_yet _ _ _ _ _ c.loop-at.invariant c.if-held-at.false c.outer.ensures c.in-Some.is
+pub returns : goal.returns
+returns c =
+    any_from_yields_List (λ i. eqb c.args.held.0 i) _ _ c.any.result c.any.ensures.ran (YieldsList-from_first (λ i. i.0) scopes_left _ c.new.ensures) (λ x b q k. search (rules, tests))
+    ∙ any_is c.args.held.0 _

@@ -1,26 +1,24 @@
 -- `resolve::with_list::write_withs` meets its contract.
-use Rattle.resolve.proofs.WithLaws.{outer_low}
-use Rattle.resolve.proofs.WithListLaws.{writing_none, own_fits, writing_done, writing_on}
+use Rattle.layout.specs.Keeps.{scopes_in}
+use Rattle.resolve.proofs.ChainLaws.{one_comes, none_comes}
+use Rattle.resolve.proofs.IdLaws.{an_expr, no_expr}
+use Rattle.resolve.proofs.WithListLaws.{with_next, with_past, writing_none, writing_room, writing_on, writing_done}
+use Rattle.spec.specs.Answer.{withs_of}
+use mathlib.Core.Path.{ap}
 use native.Mathlib.Omega.{arith}
 use Rattle.resolve.proofs.with_list.write_withs.Goals as goal
 
-pub loop-p-init : goal.loop-p-init
-loop-p-init c = writing_none _ _ _ _ c.requires.1.0 c.requires.1.1
+pub put32-requires : goal.put32-requires
+put32-requires c =
+    omega (arith, c.requires.1, c.loop-i.invariant.size, writing_room c.loop-i.invariant (with_next _ (one_comes _ _ c.next.ensures.steps c.in-Some.is) (an_expr c.in-Some-scope_with.is c.scope_with.ensures)))
 
-pub write_own-m-requires : goal.write_own-m-requires
-write_own-m-requires c = (c.requires.0, own_fits c.loop-p.invariant)
+pub loop-i-preserved-in-Some-scope_with : goal.loop-i-preserved-in-Some-scope_with
+loop-i-preserved-in-Some-scope_with c =
+    writing_on c.loop-i.invariant (with_next _ (one_comes _ _ c.next.ensures.steps c.in-Some.is) (an_expr c.in-Some-scope_with.is c.scope_with.ensures)) c.put32.ensures
 
-pub outer-requires : goal.outer-requires
-outer-requires c = c.requires.0
+pub loop-i-preserved : goal.loop-i-preserved
+loop-i-preserved c = rw (← with_past _ (one_comes _ _ c.next.ensures.steps c.in-Some.is) (no_expr c.in_default.is c.scope_with.ensures)) c.loop-i.invariant
 
-pub returns-in_default : goal.returns-in_default
-returns-in_default c = writing_done c.loop-p.invariant c.write_own-m.ensures c.outer.ensures c.in_default.is
-
-pub overflow_sub-left : goal.overflow_sub-left
-overflow_sub-left c = omega (arith, outer_low _ c.outer.ensures c.in-Some.is)
-
-pub loop-p-smaller : goal.loop-p-smaller
-loop-p-smaller c = omega (arith, outer_low _ c.outer.ensures c.in-Some.is)
-
-pub loop-p-preserved : goal.loop-p-preserved
-loop-p-preserved c = writing_on c.loop-p.invariant c.write_own-m.ensures c.outer.ensures c.in-Some.is
+pub returns : goal.returns
+unfolding withs_of
+returns c = writing_done c.loop-i.invariant (ap (withs_of (scopes_in c.args.store.now).scopes) (none_comes _ _ c.next.ensures.steps c.in-None.is))

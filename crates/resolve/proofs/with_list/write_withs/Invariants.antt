@@ -1,10 +1,10 @@
--- The loops of `resolve::with_list::write_withs`.
+-- The loop of `resolve::with_list::write_withs`.
 use Rattle.layout.specs.Keeps.{scopes_in}
 use Rattle.resolve.proofs.WithListLaws.{Writing}
+use Rattle.resolve.specs.Chain.{scopes_left}
+use Rattle.spec.specs.Answer.{chain, withs_of}
 use Rattle.resolve.proofs.with_list.write_withs.Given as goal
 
-abbrev pub invariant-loop-p : goal.invariant-loop-p
-invariant-loop-p l = Writing (scopes_in l.store).scopes l.initial.at l.left l.at l.initial.buffer l.n l.m l.buffer
-
-abbrev pub decreases-loop-p : goal.decreases-loop-p
-decreases-loop-p l = l.left
+abbrev pub invariant-loop-i : goal.invariant-loop-i
+invariant-loop-i l =
+    Writing (withs_of (scopes_in l.store).scopes (chain (scopes_in l.store).scopes l.fn.s.0)) (withs_of (scopes_in l.store).scopes (scopes_left l.i-iterator)) l.initial.buffer l.written l.buffer

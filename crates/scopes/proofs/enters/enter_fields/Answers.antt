@@ -4,6 +4,7 @@ use Rattle.rows.specs.Decoded.{pattern_with}
 use Rattle.scopes.proofs.EnterLaws.{enters_none}
 use Rattle.scopes.specs.Entering.{entered}
 use Rattle.spec.specs.Scopes.{field_names, pat_fields}
+use mathlib.Core.Logic.{inl, inr}
 use Rattle.scopes.proofs.enters.enter_fields.Goals as goal
 
 pub returns-in-Absent : goal.returns-in-Absent
@@ -12,8 +13,4 @@ returns-in-Absent c = rw c.in-Absent.is (enters_none _ _)
 
 pub returns-in-Closed : goal.returns-in-Closed
 unfolding pattern_with pattern pat_fields entered
-returns-in-Closed c = rw c.in-Closed.is c.enter_items.ensures
-
-pub returns-in-Ellipsis : goal.returns-in-Ellipsis
-unfolding pattern_with pattern pat_fields entered
-returns-in-Ellipsis c = rw c.in-Ellipsis.is c.enter_items-in-Ellipsis.ensures
+returns-in-Closed c = elim c.in-Closed.is [ inl e ↦ rw e c.enter_items.ensures | inr e ↦ rw e c.enter_items.ensures ]

@@ -4,10 +4,10 @@ use Rattle.scopes.proofs.EnterLaws.{enters_one, enters_none}
 use Rattle.spec.specs.Scopes.{one_or_none}
 use Rattle.scopes.proofs.enters.enter_maybe.Goals as goal
 
-pub returns-in-Some : goal.returns-in-Some
+pub returns-in_default : goal.returns-in_default
 unfolding name_of one_or_none
-returns-in-Some c = rw c.in-Some.is (enters_one c.enter_name.ensures)
+returns-in_default c = rw c.in_default.is (enters_none _ _)
 
-pub returns-in-None : goal.returns-in-None
+pub returns : goal.returns
 unfolding name_of one_or_none
-returns-in-None c = rw c.in-None.is (enters_none _ _)
+returns c = rw c.in-Some.is (enters_one c.enter_name.ensures)

@@ -30,8 +30,8 @@ decreases-walk_items l = 8 * l.e.0 + 3
 abbrev pub decreases-walk_path : goal.decreases-walk_path
 decreases-walk_path l = 8 * l.e.0 + 4
 
-abbrev pub decreases-walk_picks : goal.decreases-walk_picks
-decreases-walk_picks l = 8 * l.e.0 + 2
+abbrev pub decreases-child_if_any : goal.decreases-child_if_any
+decreases-child_if_any l = 8 * l.e.0 + 2
 
 abbrev pub invariant-walk_items-loop-i : goal.invariant-walk_items-loop-i
 invariant-walk_items-loop-i l = Follows l.e.0 l.scope.0 (picked l.pass (take l.i (items_at_expr l.initial.store l.e.0))) l.initial.store l.store
