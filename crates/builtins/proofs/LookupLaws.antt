@@ -6,7 +6,7 @@ use mathlib.Core.Option.{Option, none, some}
 use Prim.Native.Nat.{ℕ, ◌+◌, ◌≤◌, ◌<◌}
 use native.Mathlib.Numerals.{add-one}
 use native.Mathlib.Omega.{arith}
-use lib.ListN.{length, drop, get_or, drop_of_length-le}
+use lib.ListN.{length, take, drop, get_or, drop_of_length-le}
 use lib.Seq.{drop-cons}
 use Rattle.words.specs.Runs.{run}
 use Rattle.words.specs.Equality.{equalb}
@@ -32,7 +32,7 @@ other_length i k t h e d = sym (equalb_other (name_at i) t (λ q. d (e ∙ sym (
 pub other_first : (i k b : ℕ) (t : Text) → i < 22 → k ≡ get_or firsts i 0 → b ≡ get_or t 0 0 → (k ≡ b → ⊥) → false ≡ equalb (name_at i) t
 other_first i k b t h e f d = sym (equalb_other (name_at i) t (λ q. d (e ∙ sym (name_begins i h) ∙ ap (λ (s : Text). get_or s 0 0) q ∙ sym f)))
 
-pub row_compared : (i n : ℕ) (row t : List ℕ) (b : Bool) → n ≡ get_or lengths i 0 → row ≡ get_or rows i [] → b ≡ equalb (run row 0 n) t → b ≡ equalb (name_at i) t
+pub row_compared : (i n : ℕ) (row t : List ℕ) (b : Bool) → n ≡ get_or lengths i 0 → row ≡ get_or rows i [] → b ≡ equalb (take n row) t → b ≡ equalb (name_at i) t
 unfolding name_at run
 row_compared i n row t b e q h = h ∙ rw (e, q)
 

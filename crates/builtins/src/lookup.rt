@@ -5,7 +5,7 @@ ghost use Rattle.builtins.specs.Lookup.{Looked};
 ghost use Rattle.builtins.specs.Table.{name_at};
 
 use crate::table::{first_at, length_at, row_at};
-use words::equal_to;
+use words::equal;
 
 // The number of a built-in name among them, from 0 on.
 #[derive(Clone, Copy)]
@@ -37,7 +37,7 @@ fn is_name(text: &[u8], first: u8, i: usize) -> bool
         return false;
     }
     let row = row_at(i);
-    equal_to(&row[..], 0, size, text)
+    equal(&row[..size], text)
 }
 
 pub fn lookup_global_builtin(text: &[u8]) -> MaybeBuiltin

@@ -42,17 +42,15 @@ pub record Counting (p : Spelling) (t : Text) (value i : ℕ) : Type 0 where
 pub counting_start : (p : Spelling) (t : Text) → Counting p t 0 0
 counting_start p t = record { small = omega arith; same = refl }
 
-module _ {p : Spelling} {t : Text} {value i : ℕ} (r : Counting p t value i) (count : ℕ) (e : count ≡ length t) where
-  pub counting_more : i < count → (c : ℕ) → c ≡ get_or t i 0 → (w : ℕ) → w ≡ capped (one_more p value c) → Counting p t w (i + 1)
+module _ {p : Spelling} {t : Text} {value i : ℕ} (r : Counting p t value i) where
+  pub counting_more : i < length t → (c : ℕ) → c ≡ get_or t i 0 → (w : ℕ) → w ≡ capped (one_more p value c) → Counting p t w (i + 1)
   unfolding number_from
   counting_more h c q w f =
-      let l : i < length t = omega arith in
-      let next : capped (number_from p value (drop i t)) ≡ capped (number_from p (one_more p value c) (drop (i + 1) t)) = rw (add-one, drop-cons t i 0 l, q) in
+      let next : capped (number_from p value (drop i t)) ≡ capped (number_from p (one_more p value c) (drop (i + 1) t)) = rw (add-one, drop-cons t i 0 h, q) in
       record { small = omega (arith, f); same = r.same ∙ next ∙ rw f (sym (number_capped p (drop (i + 1) t) (one_more p value c))) }
 
-  pub counting_end : count ≤ i → value ≡ capped (number_from p 0 t)
+  pub counting_end : length t ≤ i → value ≡ capped (number_from p 0 t)
   unfolding number_from
-  counting_end h =
-      let past : length t ≤ i = omega arith in
+  counting_end past =
       let done : capped (number_from p value (drop i t)) ≡ capped value = rw (drop_of_length-le t past) in
       omega (arith, r.same, done, r.small)

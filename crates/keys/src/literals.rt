@@ -8,7 +8,7 @@ ghost use Rattle.keys.specs.Literals.{capped, one_more, number_from, float_held,
 
 use intake::{node_flag, node_text};
 use module::{Literal, NodeId, TextId, float_of, integer_of};
-use texts::{text_byte, text_length};
+use texts::text_bytes;
 
 const FLOAT: u32 = 8;
 
@@ -75,12 +75,10 @@ fn number_in(store: &[u8], t: TextId, spelling: Spelling) -> u64
     requires { Long store.now }
     ensures { result ≡ capped (number_from spelling 0 (text_in store.now t.0)) }
 {
-    let count = text_length(store, t);
+    let text = text_bytes(store, t);
     let mut value: u64 = 0;
-    let mut i: u32 = 0;
-    while i < count {
-        value = one_more(spelling, value, text_byte(store, t, i));
-        i += 1;
+    for c in text {
+        value = one_more(spelling, value, *c);
     }
     value
 }

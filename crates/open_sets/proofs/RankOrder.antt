@@ -5,9 +5,10 @@ use mathlib.Core.List.{List, ◌∷◌}
 use Prim.Native.Nat.{ℕ, ◌<◌, ◌≤◌}
 use lib.Dec.{ltb}
 use borrow.Author.Tests.{ltb-true, ltb-false}
-use Rattle.words.specs.Order.{order, flip}
-use Rattle.words.specs.declared.ordering.Order.{Order}
-use Rattle.words.specs.declared.ordering.Order.TheVariants.{Less, Equal, Greater}
+use Rattle.std.specs.Ordering.{ordering_reverse}
+use Rattle.words.specs.Order.{order}
+use Rattle.std.specs.declared.cmp.Ordering.{Ordering}
+use Rattle.std.specs.declared.cmp.Ordering.TheVariants.{Less, Equal, Greater}
 use Rattle.words.proofs.OrderLaws.{order_refl, order_equal, order_flip, order_trans, order_lt, order_gt, order_same}
 use Rattle.spec.specs.State.{MergingEntry}
 use Rattle.spec.specs.Merge.{set_of}
@@ -42,30 +43,30 @@ pub gt_order : (a b : List ℕ) → Gt a b → order a b ≡ Greater
 unfolding is_greater
 gt_order a b h = go (order a b) refl
   where
-    go : (o : Order) → order a b ≡ o → order a b ≡ Greater
+    go : (o : Ordering) → order a b ≡ o → order a b ≡ Greater
     go Less p = differ (sym (rw p at h))
     go Equal p = differ (sym (rw p at h))
     go Greater p = p
 
 -- the lists change places
 pub less_is_greater : (a b : List ℕ) → is_less (order a b) ≡ is_greater (order b a)
-unfolding is_greater is_less flip
+unfolding is_greater is_less
 less_is_greater a b = rw (order_flip a b) (go (order a b))
   where
-    go : (o : Order) → is_less o ≡ is_greater (flip o)
+    go : (o : Ordering) → is_less o ≡ is_greater (ordering_reverse o)
     go Less = refl
     go Equal = refl
     go Greater = refl
 
 pub gt_le : (a b : List ℕ) → Gt a b → Le b a
-unfolding is_greater flip
+unfolding is_greater
 gt_le a b h = rw (order_flip a b, gt_order a b h)
 
 pub le_trans : (a b d : List ℕ) → Le a b → Le b d → Le a d
 unfolding is_greater
 le_trans a b d h k = go (order a b) (order b d) refl refl
   where
-    go : (o p : Order) → order a b ≡ o → order b d ≡ p → Le a d
+    go : (o p : Ordering) → order a b ≡ o → order b d ≡ p → Le a d
     go Equal p q r = rw (order_equal a b q) k
     go Less Less q r = rw (order_trans a b d q r)
     go Less Equal q r = rw (← (order_equal b d r)) h
@@ -78,10 +79,10 @@ le_gt a b d h k = either b d (λ l. not_both a d (le_trans a b d h l) k) (λ g. 
 
 -- neither is greater
 pub le_both : (a b : List ℕ) → Le a b → Le b a → a ≡ b
-unfolding is_greater flip
+unfolding is_greater
 le_both a b h k = go (order a b) refl
   where
-    go : (o : Order) → order a b ≡ o → a ≡ b
+    go : (o : Ordering) → order a b ≡ o → a ≡ b
     go Less p = differ (rw (order_flip a b, p) at k)
     go Equal p = order_equal a b p
     go Greater p = differ (rw p at h)
@@ -102,7 +103,7 @@ unfolding rank is_greater
 less_le x y h = rw h
 
 pub less_gt : (x y : MergingEntry) → rank x y ≡ Less → Gt (standing y) (standing x)
-unfolding rank is_greater flip
+unfolding rank is_greater
 less_gt x y h = rw (order_flip (standing x) (standing y), h)
 
 -- nothing is of a lower set where it is not before

@@ -9,8 +9,8 @@ use lib.ListN.{length, get_or, take, drop}
 use lib.Seq.{take-nil}
 use borrow.Author.Tests.{eqb-true, eq-eqb, ne_eqb, leb-true, leb-false, ltb-true, ltb-false}
 use Rattle.words.specs.Order.{pick, order}
-use Rattle.words.specs.declared.ordering.Order.{Order}
-use Rattle.words.specs.declared.ordering.Order.TheVariants.{Less, Equal, Greater}
+use Rattle.std.specs.declared.cmp.Ordering.{Ordering}
+use Rattle.std.specs.declared.cmp.Ordering.TheVariants.{Less, Equal, Greater}
 use Rattle.words.proofs.OrderLaws.{order_same}
 use Rattle.spec.specs.Basics.{ExprId}
 use Rattle.spec.specs.State.{SetId, MergingEntry, static, source, dynamic}
@@ -52,7 +52,7 @@ module _ (s : SetId) where
   static_insert x [] = refl
   static_insert x (y ∷ ys) = go (static_insert x ys)
     where
-      chosen : (o : Order) (a b : List Static) → here_or_later o a b ≡ pick (is_greater o) b a
+      chosen : (o : Ordering) (a b : List Static) → here_or_later o a b ≡ pick (is_greater o) b a
       chosen Less a b = refl
       chosen Equal a b = refl
       chosen Greater a b = refl

@@ -9,8 +9,8 @@ use lib.ListN.{length, get_or}
 use lib.Dec.{ltb}
 use borrow.Author.Tests.{lt-ltb, le-ltb, ltb-true, ltb-false}
 use Rattle.words.specs.Order.{order}
-use Rattle.words.specs.declared.ordering.Order.{Order}
-use Rattle.words.specs.declared.ordering.Order.TheVariants.{Less, Equal, Greater}
+use Rattle.std.specs.declared.cmp.Ordering.{Ordering}
+use Rattle.std.specs.declared.cmp.Ordering.TheVariants.{Less, Equal, Greater}
 use Rattle.words.proofs.OrderLaws.{order_refl, order_equal}
 use Rattle.spec.specs.Basics.{Text}
 use Rattle.spec.specs.State.{MergingEntry}
@@ -27,7 +27,7 @@ use Rattle.open_sets.proofs.RunReads.{stops_at_lem}
 
 -- ---- what was found at a place
 module _ (s : List ℕ) (j n : ℕ) (p : Standing) (en : n ≡ length (entries_of s)) where
-  module _ (o : Order) (h : j < n) (said : o ≡ order (standing (placed (entries_of s) (order_of s) j)) (standing_with s p)) where
+  module _ (o : Ordering) (h : j < n) (said : o ≡ order (standing (placed (entries_of s) (order_of s) j)) (standing_with s p)) where
     within : ltb j (length (entries_of s)) ≡ true
     within = lt-ltb j (length (entries_of s)) (omega arith)
 
@@ -44,7 +44,7 @@ module _ (s : List ℕ) (j n : ℕ) (p : Standing) (en : n ≡ length (entries_o
   found_past h = rw (le-ltb j (length (entries_of s)) (omega arith))
 
 -- ---- at the first place that does not stand before the key
-equal_is : (o : Order) → is_equal o ≡ true → o ≡ Equal
+equal_is : (o : Ordering) → is_equal o ≡ true → o ≡ Equal
 unfolding is_equal
 equal_is Less h = differ (sym h)
 equal_is Equal h = refl

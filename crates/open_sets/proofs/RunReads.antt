@@ -8,8 +8,8 @@ use lib.ListN.{length, get_or}
 use borrow.Author.Tests.{not-true}
 use Rattle.words.specs.Words.{word}
 use Rattle.words.specs.Order.{order}
-use Rattle.words.specs.declared.ordering.Order.{Order}
-use Rattle.words.specs.declared.ordering.Order.TheVariants.{Less, Equal, Greater}
+use Rattle.std.specs.declared.cmp.Ordering.{Ordering}
+use Rattle.std.specs.declared.cmp.Ordering.TheVariants.{Less, Equal, Greater}
 use Rattle.words.proofs.OrderLaws.{order_lt, order_gt, order_same}
 use Rattle.spec.specs.Merge.{entry_at}
 use Rattle.layout.specs.Layout.{entry_limit, entry_count, run_at}
@@ -65,22 +65,22 @@ module _ (s : List ℕ) (x y : Standing) where
   pub class_greater : x.set ≡ y.set → y.class < x.class → Greater ≡ order (standing_with s x) (standing_with s y)
   class_greater e h = sym (set_same e ∙ order_gt x.class y.class (text_in s x.key.0) (text_in s y.key.0) h)
 
-  pub keys_decide : (r : Order) → x.set ≡ y.set → x.class ≡ y.class → r ≡ order (text_in s x.key.0) (text_in s y.key.0) → r ≡ order (standing_with s x) (standing_with s y)
+  pub keys_decide : (r : Ordering) → x.set ≡ y.set → x.class ≡ y.class → r ≡ order (text_in s x.key.0) (text_in s y.key.0) → r ≡ order (standing_with s x) (standing_with s y)
   keys_decide r e c k = k ∙ sym (set_same e ∙ order_same x.class y.class (text_in s x.key.0) (text_in s y.key.0) c)
 
 -- what the comparison at a place said
-pub compared : (s : List ℕ) (j i : ℕ) (e : Entry) (q p : Standing) (r : Order) → i ≡ get_or (order_of s) j 0 → entry_with s e ≡ entry_at i (state_of s) → Stands q e → r ≡ order (standing_with s q) (standing_with s p) → r ≡ order (standing (placed (entries_of s) (order_of s) j)) (standing_with s p)
+pub compared : (s : List ℕ) (j i : ℕ) (e : Entry) (q p : Standing) (r : Ordering) → i ≡ get_or (order_of s) j 0 → entry_with s e ≡ entry_at i (state_of s) → Stands q e → r ≡ order (standing_with s q) (standing_with s p) → r ≡ order (standing (placed (entries_of s) (order_of s) j)) (standing_with s p)
 compared s j i e q p r a b c d = rw (placed_is s j i e a b, ← c.same s) d
 
 -- ---- the search
 -- the test by the order's own
-pub stops_past : (o : Order) → stops true o ≡ is_greater o
+pub stops_past : (o : Ordering) → stops true o ≡ is_greater o
 unfolding stops is_greater
 stops_past Less = refl
 stops_past Equal = refl
 stops_past Greater = refl
 
-pub stops_at_lem : (o : Order) → stops false o ≡ not (is_less o)
+pub stops_at_lem : (o : Ordering) → stops false o ≡ not (is_less o)
 unfolding stops is_less
 stops_at_lem Less = refl
 stops_at_lem Equal = refl
@@ -106,7 +106,7 @@ pub record Search (past : Bool) (p : Standing) (s : List ℕ) (low high : ℕ) :
   pub halved : InOrder (entries_of s) (order_of s) → Halved (stops_at past p s) (length (entries_of s)) low high
 
 -- what the comparison in the middle said
-said : (past : Bool) (p : Standing) (s : List ℕ) (middle : ℕ) (r : Bool) (x : Order) → x ≡ order (standing (placed (entries_of s) (order_of s) middle)) (standing_with s p) → r ≡ stops past x → stops_at past p s middle ≡ r
+said : (past : Bool) (p : Standing) (s : List ℕ) (middle : ℕ) (r : Bool) (x : Ordering) → x ≡ order (standing (placed (entries_of s) (order_of s) middle)) (standing_with s p) → r ≡ stops past x → stops_at past p s middle ≡ r
 unfolding stops_at
 said past p s middle r x a b = rw (← a, ← b)
 
@@ -114,7 +114,7 @@ module _ {past : Bool} {p : Standing} {s : List ℕ} where
   pub search_begun : (n : ℕ) → n ≡ length (entries_of s) → n ≤ entry_limit → Search past p s 0 n
   search_begun n e h = record { apart = omega arith; within = omega arith; few = h; halved = λ o. rw e halved_none }
 
-  pub search_left : {low high : ℕ} (middle : ℕ) (r : Bool) (x : Order) → Search past p s low high → low ≤ middle → middle < high → x ≡ order (standing (placed (entries_of s) (order_of s) middle)) (standing_with s p) → r ≡ stops past x → r ≡ true → Search past p s low middle
+  pub search_left : {low high : ℕ} (middle : ℕ) (r : Bool) (x : Ordering) → Search past p s low high → low ≤ middle → middle < high → x ≡ order (standing (placed (entries_of s) (order_of s) middle)) (standing_with s p) → r ≡ stops past x → r ≡ true → Search past p s low middle
   search_left middle r x g h l a b e = record {
     apart = h;
     within = omega (arith, g.within);
@@ -122,7 +122,7 @@ module _ {past : Bool} {p : Standing} {s : List ℕ} where
     halved = λ o. halved_left middle (search_rises past p s o) (g.halved o) h l (said past p s middle r x a b ∙ e);
   }
 
-  pub search_right : {low high : ℕ} (middle : ℕ) (r : Bool) (x : Order) → Search past p s low high → low ≤ middle → middle < high → x ≡ order (standing (placed (entries_of s) (order_of s) middle)) (standing_with s p) → r ≡ stops past x → r ≡ false → Search past p s (middle + 1) high
+  pub search_right : {low high : ℕ} (middle : ℕ) (r : Bool) (x : Ordering) → Search past p s low high → low ≤ middle → middle < high → x ≡ order (standing (placed (entries_of s) (order_of s) middle)) (standing_with s p) → r ≡ stops past x → r ≡ false → Search past p s (middle + 1) high
   search_right middle r x g h l a b e = record {
     apart = omega arith;
     within = g.within;

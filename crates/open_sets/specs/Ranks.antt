@@ -2,8 +2,8 @@
 -- sources, then dynamics, and statics in the byte order of their keys. Of equal ones the earlier number stands first.
 use Rattle.std.specs.Prelude.{◌≡◌, Bool, true, false, List, [], ◌∷◌, ◌++◌, map, ℕ, suc, get_or, if◌then◌else◌}
 use Rattle.words.specs.Order.{order}
-use Rattle.words.specs.declared.ordering.Order.{Order}
-use Rattle.words.specs.declared.ordering.Order.TheVariants.{Less, Equal, Greater}
+use Rattle.std.specs.declared.cmp.Ordering.{Ordering}
+use Rattle.std.specs.declared.cmp.Ordering.TheVariants.{Less, Equal, Greater}
 use Rattle.spec.specs.Basics.{Text, ExprId}
 use Rattle.spec.specs.State.{SetId, MergingEntry, static, source, dynamic}
 use Rattle.spec.specs.Merge.{set_of, Static, statics_of, sources_of, dynamics_of}
@@ -23,16 +23,16 @@ unfoldable pub standing : MergingEntry → List ℕ
 standing e = set_of e ∷ class_of e ∷ key_of e
 
 -- the set decides, then the class, then the key (proofs/RankOrder.antt, `rank_is`)
-unfoldable pub rank : MergingEntry → MergingEntry → Order
+unfoldable pub rank : MergingEntry → MergingEntry → Ordering
 rank x y = order (standing x) (standing y)
 
 -- the same as tests
-unfoldable pub is_less : Order → Bool
+unfoldable pub is_less : Ordering → Bool
 is_less Less = true
 is_less Equal = false
 is_less Greater = false
 
-unfoldable pub is_greater : Order → Bool
+unfoldable pub is_greater : Ordering → Bool
 is_greater Less = false
 is_greater Equal = false
 is_greater Greater = true

@@ -4,8 +4,8 @@ use Rattle.std.specs.Prelude.{◌≡◌, Bool, true, false, not, List, [], ◌�
 use Rattle.std.proofs.Math.Option.{Option, none, some}
 use Rattle.words.specs.Order.{order}
 use Rattle.words.specs.Words.{word}
-use Rattle.words.specs.declared.ordering.Order.{Order}
-use Rattle.words.specs.declared.ordering.Order.TheVariants.{Less, Equal, Greater}
+use Rattle.std.specs.declared.cmp.Ordering.{Ordering}
+use Rattle.std.specs.declared.cmp.Ordering.TheVariants.{Less, Equal, Greater}
 use Rattle.spec.specs.State.{SetId, MergingEntry, source, State, add_entry}
 use Rattle.spec.specs.Merge.{set_of}
 use Rattle.layout.specs.Layout.{entry_limit, entry_count, run_at}
@@ -29,7 +29,7 @@ pub record Stands (p : Standing) (e : Entry) : Type 0 where
 
 -- ---- the search for a place
 -- It goes on past what stands before p, and if `past` says so past what stands where p does.
-unfoldable pub stops : Bool → Order → Bool
+unfoldable pub stops : Bool → Ordering → Bool
 stops past Less = false
 stops past Equal = not past
 stops past Greater = true
@@ -50,7 +50,7 @@ unfoldable pub maybe_entry_of : rust.Option ℕ → Option ℕ
 maybe_entry_of (rust.Some i) = some i
 maybe_entry_of rust.None = none
 
-unfoldable pub is_equal : Order → Bool
+unfoldable pub is_equal : Ordering → Bool
 is_equal Less = false
 is_equal Equal = true
 is_equal Greater = false

@@ -15,7 +15,8 @@ use crate::standing::{Standing, compare_standings, standing_of};
 use layout::tables::{ABSENT, RUN};
 use layout::wide;
 use module::TextId;
-use words::{Order, get32};
+use std::cmp::Ordering;
+use words::get32;
 
 // The number of the entry at the place j; past the end 0.
 fn in_run(store: &[u8], j: u32) -> u32
@@ -29,7 +30,7 @@ fn in_run(store: &[u8], j: u32) -> u32
 }
 
 // How the entry at the place j stands to p.
-fn compare_at(store: &[u8], j: u32, p: Standing) -> Order
+fn compare_at(store: &[u8], j: u32, p: Standing) -> Ordering
     requires { Long store.now }
     ensures { result ≡ order (standing (placed (entries_of store.now) (order_of store.now) j)) (standing_with store.now p) }
 {
@@ -38,13 +39,13 @@ fn compare_at(store: &[u8], j: u32, p: Standing) -> Order
 }
 
 // Whether the search below stops at an entry that compares so.
-fn stops(o: Order, past: bool) -> bool
+fn stops(o: Ordering, past: bool) -> bool
     ensures { result ≡ stops past o }
 {
     match o {
-        Order::Less => false,
-        Order::Equal => !past,
-        Order::Greater => true,
+        Ordering::Less => false,
+        Ordering::Equal => !past,
+        Ordering::Greater => true,
     }
 }
 
@@ -73,9 +74,9 @@ fn found_at(store: &[u8], j: u32, p: Standing) -> Option<u32>
 {
     if j < entry_count(store) {
         return match compare_at(store, j, p) {
-            Order::Less => None,
-            Order::Equal => Some(in_run(store, j)),
-            Order::Greater => None,
+            Ordering::Less => None,
+            Ordering::Equal => Some(in_run(store, j)),
+            Ordering::Greater => None,
         };
     }
     None

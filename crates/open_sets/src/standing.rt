@@ -7,8 +7,8 @@ ghost use Rattle.open_sets.specs.Run.{standing_with, Stands};
 use crate::entry::Entry;
 use layout::tables::ABSENT;
 use module::TextId;
+use std::cmp::Ordering;
 use texts::compare_texts;
-use words::Order;
 
 #[derive(Clone, Copy)]
 pub struct Standing {
@@ -41,21 +41,21 @@ pub fn standing_of(e: Entry) -> Standing
     }
 }
 
-pub fn compare_standings(store: &[u8], x: Standing, y: Standing) -> Order
+pub fn compare_standings(store: &[u8], x: Standing, y: Standing) -> Ordering
     requires { Long store.now }
     ensures { result ≡ order (standing_with store.now x) (standing_with store.now y) }
 {
     if x.set < y.set {
-        return Order::Less;
+        return Ordering::Less;
     }
     if y.set < x.set {
-        return Order::Greater;
+        return Ordering::Greater;
     }
     if x.class < y.class {
-        return Order::Less;
+        return Ordering::Less;
     }
     if y.class < x.class {
-        return Order::Greater;
+        return Ordering::Greater;
     }
     compare_texts(store, x.key, y.key)
 }

@@ -1,17 +1,15 @@
 -- The text of a name in a store where one name is read as if it had another text. Assumes nothing.
-use mathlib.Core.Path.{◌≡◌, refl, sym, ap, ◌∙◌}
+use mathlib.Core.Path.{◌≡◌, refl, ap, ◌∙◌}
 use mathlib.Core.Bool.{Bool}
 use mathlib.Core.List.{List, [], ◌∷◌}
 use mathlib.Core.Option.{Option}
-use Prim.Native.Nat.{ℕ, ◌+◌, ◌-◌, ◌≤◌, ◌<◌}
+use Prim.Native.Nat.{ℕ, ◌≤◌, ◌<◌}
 use native.Mathlib.Omega.{arith}
-use lib.ListN.{length, take, drop, get_or-eq_default}
+use lib.ListN.{length, get_or-eq_default}
 use lib.Dec.{eqb}
 use borrow.Author.Tests.{ne_eqb}
 use Rattle.words.specs.Words.{word}
-use Rattle.words.specs.Runs.{run}
 use Rattle.words.specs.Equality.{equalb}
-use Rattle.words.proofs.RunLaws.{run_whole}
 use Rattle.spec.specs.Basics.{Text}
 use Rattle.spec.specs.Module.{Name}
 use Rattle.spec.specs.Lower.{module_of}
@@ -24,7 +22,6 @@ use Rattle.layout.specs.Rows.{cap}
 use Rattle.layout.specs.Texts.{text_in}
 use Rattle.layout.specs.States.{name_in, names_of, state_of, module_in}
 use Rattle.layout.proofs.RowLaws.{length_rows, cap_lim}
-use Rattle.texts.specs.Reads.{Lies}
 
 is_empty_lem : (t : Text) → eqb (length t) 0 ≡ equalb [] t
 unfolding equalb
@@ -53,27 +50,17 @@ module _ (s : List ℕ) (x : ℕ) (text : Text) where
     another k e q d = q ∙ rw (e, text_other (module_in s) x text y d)
 
     -- the name itself has the text
-    pub itself : y ≡ x → x < length (names_of s) → b ≡ equalb (run text 0 (length text)) sought
+    pub itself : y ≡ x → x < length (names_of s) → b ≡ equalb text sought
         → b ≡ equalb (text_of_name (set_name x text (module_in s)) y) sought
     unfolding module_in module_of state_of
-    itself e h q = q ∙ rw (run_whole text, e, text_set (module_in s) x text h)
+    itself e h q = q ∙ rw (e, text_set (module_in s) x text h)
 
     -- what is no name has the empty text
     pub no_names : y ≡ x → length (names_of s) ≤ x → b ≡ eqb (length sought) 0
         → b ≡ equalb (text_of_name (set_name x text (module_in s)) y) sought
     no_names e h q = q ∙ is_empty_lem sought ∙ rw (e, unset h, nothing h)
 
--- ---- the bytes of a text, lent from the store, are sought
-pub lent_answer : (s : List ℕ) (scopes : List Scope) (t at n : ℕ) → Lies s t at n → (x : ℕ) (text : Text) (o : Option ℕ) {a : Answer}
-    → a ≡ answer_at (text_of_name (set_name x text (module_in s))) scopes (take (at + n - at) (drop at s)) o
-    → a ≡ answer_at (text_of_name (set_name x text (module_in s))) scopes (text_in s t) o
-unfolding run
-lent_answer s scopes t at n lies x text o h =
-    let e : at + n - at ≡ n = omega arith in
-    let lent : take (at + n - at) (drop at s) ≡ text_in s t = rw e (sym lies.same) in
-    h ∙ rw lent
-
--- and no name is set
+-- ---- no name is set
 pub unset_answer : (s : List ℕ) (scopes : List Scope) (sought : Text) (x : ℕ) (text : Text) (o : Option ℕ) {a : Answer} → name_limit ≤ x
     → a ≡ answer_at (text_of_name (set_name x text (module_in s))) scopes sought o
     → a ≡ answer_at (text_of_name (module_in s)) scopes sought o

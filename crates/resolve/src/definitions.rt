@@ -20,7 +20,7 @@ use kept::{entered_at, entered_count};
 use module::{NameId, ScopeId};
 use rows::{name_count, name_text};
 use texts::text_is;
-use words::equal_to;
+use words::equal;
 
 // Whether the name y has the sought text. A number that is no name's has the empty text, and nothing can be set there.
 fn name_is(store: &[u8], y: NameId, sought: &[u8], x: NameId, text: &[u8]) -> bool
@@ -33,7 +33,7 @@ fn name_is(store: &[u8], y: NameId, sought: &[u8], x: NameId, text: &[u8]) -> bo
     if name_count(store) <= x.0 {
         return sought.len() == 0;
     }
-    equal_to(text, 0, text.len(), sought)
+    equal(text, sought)
 }
 
 // The i-th name entered in a scope, where it has the sought text.

@@ -19,7 +19,7 @@ use builtins::{MaybeBuiltin, lookup_global_builtin};
 use kept::scope_of;
 use layout::tables::ABSENT;
 use module::{ExprId, NameId, ScopeId, TextId};
-use texts::text_span;
+use texts::text_bytes;
 
 // The built-in name that a text is, where no definition hides it.
 fn unhidden_builtin(found: Option<(ScopeId, NameId)>, sought: &[u8]) -> MaybeBuiltin
@@ -76,11 +76,7 @@ pub fn resolve_renamed(store: &[u8], e: ExprId, t: TextId, x: NameId, text: &[u8
     requires { Long store.now }
     ensures { answer_with result (withs_at (scopes_in store.now) e.0) ≡ answer_at (text_of_name (set_name x.0 text.now (module_in store.now))) (scopes_in store.now).scopes (text_in store.now t.0) (scope_of_expr (scopes_in store.now) e.0) }
 {
-    let span = text_span(store, t);
-    let at = span.at;
-    let end = at + span.len;
-    let sought = &store[at..end];
-    resolve_as(store, e, sought, x, text)
+    resolve_as(store, e, text_bytes(store, t), x, text)
 }
 
 // What the text t means there. The mark is no name's number, so that every name is read as it stands.

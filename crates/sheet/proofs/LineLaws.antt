@@ -14,7 +14,7 @@ use lib.Dec.{eqb}
 use borrow.Author.Tests.{ne_eqb}
 use Rattle.words.specs.Runs.{run}
 use Rattle.words.specs.Equality.{equalb}
-use Rattle.words.proofs.RunLaws.{length_run, run_snoc, run_none, run_whole}
+use Rattle.words.proofs.RunLaws.{length_run, run_snoc, run_none}
 use Rattle.spec.specs.Basics.{Text, bytes, maybe}
 use Rattle.spec.specs.Sheet.{Fault, malformed, Got, got, bad, next, after, up_to_end, line, field, number}
 use Rattle.spec.proofs.reading.Places.{after_rest, end_inside}
@@ -61,12 +61,11 @@ module _ (s : List ℕ) (at : ℕ) (key : List ℕ) (h : at ≤ length s) where
   pub key_short : length s - at < length key → none ≡ after key (drop at s)
   key_short k = sym (after_short key (drop at s) (omega (arith, length-drop at s)))
 
-  pub key_compared : length key ≤ length s - at → (r : Bool) → r ≡ equalb (run s at (length key)) (run key 0 (length key))
+  pub key_compared : length key ≤ length s - at → (r : Bool) → r ≡ equalb (take (at + length key - at) (drop at s)) key
       → after_key r (at + length key) s ≡ after key (drop at s)
-  unfolding run
   key_compared k r e =
-      let w : run key 0 (length key) ≡ key = run_whole key in
-      let q : r ≡ equalb (take (length key) (drop at s)) key = e ∙ ap (equalb (take (length key) (drop at s))) w in
+      let n : at + length key - at ≡ length key = omega arith in
+      let q : r ≡ equalb (take (length key) (drop at s)) key = rw n at e in
       rw q (dropped (equalb (take (length key) (drop at s)) key) ∙ after_equal key (drop at s) (omega (arith, length-drop at s)))
     where
       dropped : (t : Bool) → after_key t (at + length key) s ≡ after_key t (length key) (drop at s)

@@ -28,7 +28,7 @@ fn has_key(s: &[u8], at: usize, key: &[u8]) -> bool
     if s.len() - at < n {
         return false;
     }
-    words::equal(s, at, key, 0, n)
+    words::equal(&s[at..at + n], key)
 }
 
 // The first byte 10 from `start` on.

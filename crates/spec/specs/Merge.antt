@@ -4,8 +4,8 @@ use Rattle.std.specs.Prelude.{Bool, false, ◌&&◌, List, [], ◌∷◌, ℕ, z
 use Rattle.std.proofs.Math.Option.{Option, none, some}
 use Rattle.words.specs.Equality.{equalb}
 use Rattle.words.specs.Order.{order}
-use Rattle.words.specs.declared.ordering.Order.{Order}
-use Rattle.words.specs.declared.ordering.Order.TheVariants.{Less, Equal, Greater}
+use Rattle.std.specs.declared.cmp.Ordering.{Ordering}
+use Rattle.std.specs.declared.cmp.Ordering.TheVariants.{Less, Equal, Greater}
 use Rattle.spec.specs.Basics.{Text, NodeId, ExprId, NameId}
 use Rattle.spec.specs.Keys.{AttrKind, static_key, dynamic_key, kind, pointer, kid, items, items_after, attr_kind}
 use Rattle.spec.specs.Module.{Pointer, string, BindingValue, expr, inherit, inherit_from, Bindings, attr_set, literal, select, reference, NameKind, PlainAttrset}
@@ -122,7 +122,7 @@ pub record Static : Type 0 where
   pub value : Option BindingValue
 
 -- here, or later in the list
-unfoldable pub here_or_later : Order → List Static → List Static → List Static
+unfoldable pub here_or_later : Ordering → List Static → List Static → List Static
 here_or_later Less here later = here
 here_or_later Equal here later = here
 here_or_later Greater here later = later

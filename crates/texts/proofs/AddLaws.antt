@@ -10,7 +10,7 @@ use lib.Dec.{eqb, leb}
 use borrow.Author.Tests.{le-leb, leb-true, eq-eqb, ne_eqb, eqb-true}
 use Rattle.words.specs.Runs.{run, splice}
 use Rattle.words.specs.Words.{number, word, set_word}
-use Rattle.words.proofs.RunLaws.{length_splice, run_whole, run_splice_other, run_splice_same}
+use Rattle.words.proofs.RunLaws.{length_splice, run_splice_other, run_splice_same}
 use Rattle.words.proofs.WordLaws.{length_set_word, word_set_word_same, word_set_word_other, run_set_word_other, word_splice_other}
 use Rattle.layout.specs.Layout.{absent, text_limit, texts_place, texts_at, store_bytes, Long}
 use Rattle.layout.specs.Changes.{Outside, Wrote}
@@ -63,20 +63,17 @@ text_full s bytes n h =
 absent_now : (s t : List ℕ) (j : ℕ) → j ≡ absent → (text_in t j ≡ text_in s j) × (text_fits t j ≡ true)
 absent_now s t j e = rw e (text_absent t ∙ sym (text_absent s), fits_absent t)
 
-module _ (s u v t bytes : List ℕ) (k n : ℕ) (l : Long s) (ek : k ≡ word s texts_place) (en : n ≡ length bytes) (some_bytes : length bytes ≡ 0 → ⊥) (h : k + 4 + n ≤ text_limit) (eu : u ≡ set_word s (texts_at + k) n) (ev : v ≡ splice u (texts_at + k + 4) (run bytes 0 n)) (et : t ≡ set_word v texts_place (k + 4 + n)) where
-  copied : run bytes 0 n ≡ bytes
-  copied = rw en (run_whole bytes)
-
+module _ (s u v t bytes : List ℕ) (k n : ℕ) (l : Long s) (ek : k ≡ word s texts_place) (en : n ≡ length bytes) (some_bytes : length bytes ≡ 0 → ⊥) (h : k + 4 + n ≤ text_limit) (eu : u ≡ set_word s (texts_at + k) n) (ev : v ≡ splice u (texts_at + k + 4) bytes) (et : t ≡ set_word v texts_place (k + 4 + n)) where
   long_u : length u ≡ length s
   long_u = rw eu (length_set_word s (texts_at + k) n)
 
   long_v : length v ≡ length s
-  long_v = rw ev (length_splice u (texts_at + k + 4) (run bytes 0 n)) ∙ long_u
+  long_v = rw ev (length_splice u (texts_at + k + 4) bytes) ∙ long_u
 
   -- what lies before the new text, but for the header
   run_before : (at m : ℕ) → 32 ≤ at → at + m ≤ texts_at + k → run t at m ≡ run s at m
   run_before at m a b =
-      let x : run v at m ≡ run u at m = rw ev (run_splice_other u (texts_at + k + 4) (run bytes 0 n) at m (inl (omega arith))) in
+      let x : run v at m ≡ run u at m = rw ev (run_splice_other u (texts_at + k + 4) bytes at m (inl (omega arith))) in
       let y : run u at m ≡ run s at m = rw eu (run_set_word_other s (texts_at + k) n at m (inl b)) in
       rw et (run_set_word_other v 28 (k + 4 + n) at m (inr a)) ∙ x ∙ y
 
@@ -86,8 +83,8 @@ module _ (s u v t bytes : List ℕ) (k n : ℕ) (l : Long s) (ek : k ≡ word s 
 
   word_outside : (j : ℕ) → (j + 4 ≤ texts_place) ⊎ (texts_place + 4 ≤ j) → (j + 4 ≤ texts_at) ⊎ (store_bytes ≤ j) → word t j ≡ word s j
   word_outside j a b =
-      let ln : length (run bytes 0 n) ≡ n = rw (copied, en) in
-      let x : word v j ≡ word u j = rw ev (word_splice_other u (texts_at + k + 4) (run bytes 0 n) j (rw ln (clear_of (texts_at + k + 4) n texts_at store_bytes j (omega arith) (omega arith) b))) in
+      let ln : length bytes ≡ n = sym en in
+      let x : word v j ≡ word u j = rw ev (word_splice_other u (texts_at + k + 4) bytes j (rw ln (clear_of (texts_at + k + 4) n texts_at store_bytes j (omega arith) (omega arith) b))) in
       let y : word u j ≡ word s j = rw eu (word_set_word_other s (texts_at + k) n j (clear_of (texts_at + k) 4 texts_at store_bytes j (omega arith) (omega arith) b)) in
       rw et (word_set_word_other v texts_place (k + 4 + n) j a) ∙ x ∙ y
 
@@ -96,13 +93,13 @@ module _ (s u v t bytes : List ℕ) (k n : ℕ) (l : Long s) (ek : k ≡ word s 
 
   length_now : word t (texts_at + k) ≡ n
   length_now =
-      let x : word v (texts_at + k) ≡ word u (texts_at + k) = rw ev (word_splice_other u (texts_at + k + 4) (run bytes 0 n) (texts_at + k) (inl (omega arith))) in
+      let x : word v (texts_at + k) ≡ word u (texts_at + k) = rw ev (word_splice_other u (texts_at + k + 4) bytes (texts_at + k) (inl (omega arith))) in
       let y : word u (texts_at + k) ≡ n = rw eu (word_set_word_same s (texts_at + k) n (omega arith) (omega arith)) in
       rw et (word_set_word_other v texts_place (k + 4 + n) (texts_at + k) (inr (omega arith))) ∙ x ∙ y
 
   bytes_now : run t (texts_at + k + 4) n ≡ bytes
   bytes_now =
-      let x : run v (texts_at + k + 4) n ≡ bytes = rw (ev, copied, en) (run_splice_same u (texts_at + k + 4) bytes (omega (arith, long_u))) in
+      let x : run v (texts_at + k + 4) n ≡ bytes = rw (ev, en) (run_splice_same u (texts_at + k + 4) bytes (omega (arith, long_u))) in
       rw et (run_set_word_other v 28 (k + 4 + n) (texts_at + k + 4) n (inr (omega arith))) ∙ x
 
   text_now : text_in t k ≡ bytes

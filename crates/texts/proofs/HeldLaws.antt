@@ -1,12 +1,12 @@
 -- Texts within the bytes in use, and numbers that stand for them. Assumes nothing.
-use mathlib.Core.Path.{◌≡◌, refl, sym, ap, ◌∙◌}
+use mathlib.Core.Path.{◌≡◌, refl, sym, ◌∙◌}
 use mathlib.Core.Logic.{inr}
 use mathlib.Core.Bool.{Bool, true, false, ◌||◌}
 use mathlib.Core.List.{List, []}
-use Prim.Native.Nat.{ℕ, ◌+◌, ◌≤◌, ◌<◌}
+use Prim.Native.Nat.{ℕ, ◌+◌, ◌≤◌}
 use native.Mathlib.Omega.{arith}
 use lib.Dec.{eqb, leb}
-use borrow.Author.Tests.{lt-leb, leb-true, le-leb}
+use borrow.Author.Tests.{leb-true, le-leb}
 use Rattle.words.specs.Runs.{run}
 use Rattle.words.specs.Words.{word}
 use Rattle.layout.specs.Layout.{absent, texts_place, texts_at, text_limit}
@@ -15,20 +15,6 @@ use Rattle.layout.specs.Texts.{texts_used, text_of, text_in, text_held}
 use Rattle.layout.proofs.Frames.{text_absent}
 use Rattle.layout.proofs.RowLaws.{cap_less}
 use Rattle.texts.specs.Fits.{text_fits, Held}
-
--- ---- the test, as the code makes it
-module _ (s : List ℕ) (k count most used place : ℕ) (a : count ≡ word s texts_place) (b : most ≡ cap count text_limit) (c : used ≡ most) (d : place ≡ k) where
-  used_is : used ≡ texts_used s
-  unfolding texts_used
-  used_is = c ∙ b ∙ ap (λ (n : ℕ). cap n text_limit) a
-
-  pub held_not : used < place + 4 → false ≡ text_held s k
-  unfolding text_held
-  held_not h = sym (lt-leb (k + 4 + word s (texts_at + k)) (texts_used s) (omega (arith, used_is)))
-
-  pub held_is : (at n len : ℕ) → at ≡ texts_at + place → n ≡ word s at → len ≡ n → leb (place + 4 + len) used ≡ text_held s k
-  unfolding text_held
-  held_is at n len e f g = rw (g, f, e, d, used_is)
 
 -- ---- what it says of the text
 pub text_held_lem : (s : List ℕ) (k : ℕ) → text_held s k ≡ true → text_in s k ≡ run s (texts_at + k + 4) (word s (texts_at + k))

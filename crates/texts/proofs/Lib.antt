@@ -1,4 +1,3 @@
 pub mod HeldLaws
-pub mod FitLaws
 pub mod ReadLaws
 pub mod AddLaws

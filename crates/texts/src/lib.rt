@@ -1,4 +1,4 @@
-// Texts in a store: read and compared where they lie, added after those that are there, and which numbers are those of
+// Texts in a store: lent and compared where they lie, added after those that are there, and which numbers are those of
 // texts within the bytes in use.
 //
 // The crates above hold the number of a text and ask here what its bytes are; what any bytes say of a text is layout's
@@ -11,4 +11,4 @@ mod read;
 
 pub use add::add_text;
 pub use held::{held_text, text_fits};
-pub use read::{TextSpan, compare_texts, text_byte, text_is, text_length, text_span, texts_equal};
+pub use read::{compare_texts, text_bytes, text_is, texts_equal};

@@ -1,34 +1,29 @@
--- `equalb` is true of equal lists and of no others. Assumes nothing.
-use mathlib.Core.Path.{◌≡◌, refl, sym}
-use mathlib.Core.Bool.{Bool, true, false}
+-- `equalb` is the library's test of two lists of bytes: true of equal lists and of no others. Assumes nothing.
+use mathlib.Core.Path.{◌≡◌, refl, ap, ◌∙◌, sym}
+use mathlib.Core.Bool.{Bool, true, false, ◌&&◌}
 use mathlib.Core.List.{List, [], ◌∷◌}
 use Prim.Native.Nat.{ℕ}
-use native.Mathlib.Omega.{arith}
 use lib.Dec.{eqb}
-use borrow.Author.Tests.{eq-eqb, eqb-true}
+use Rattle.std.specs.Str.{bytes_eq}
+use Rattle.std.specs.Cmp.Lexicographic.{same_text, other_text}
+use Rattle.std.proofs.lemmas.Cmp.{nat_list_eq_equiv}
 use Rattle.words.specs.Equality.{equalb}
 
-pub equalb_refl : (xs : List ℕ) → equalb xs xs ≡ true
+pub equalb_is : (xs ys : List ℕ) → equalb xs ys ≡ bytes_eq xs ys
 unfolding equalb
-equalb_refl [] = refl
-equalb_refl (x ∷ xs) = rw (eq-eqb x x refl) (equalb_refl xs)
+equalb_is [] [] = refl
+equalb_is [] (y ∷ ys) = refl
+equalb_is (x ∷ xs) [] = refl
+equalb_is (x ∷ xs) (y ∷ ys) = ap (λ b. eqb x y && b) (equalb_is xs ys)
+
+pub equalb_refl : (xs : List ℕ) → equalb xs xs ≡ true
+equalb_refl xs = equalb_is xs xs ∙ nat_list_eq_equiv.refl xs
 
 pub equalb_true : (xs ys : List ℕ) → equalb xs ys ≡ true → xs ≡ ys
-unfolding equalb
-equalb_true [] [] h = refl
-equalb_true [] (y ∷ ys) h = cc
-equalb_true (x ∷ xs) [] h = cc
-equalb_true (x ∷ xs) (y ∷ ys) h = go (equalb_true xs ys) (eqb x y) refl
-  where
-    go : (equalb xs ys ≡ true → xs ≡ ys) → (b : Bool) → eqb x y ≡ b → x ∷ xs ≡ y ∷ ys
-    go rest true p = let e = eqb-true x y p in let f = rest (rw p at h) in cc
-    go rest false p = let z : false ≡ true = rw p at h in cc
+equalb_true xs ys h = same_text xs ys (sym h ∙ equalb_is xs ys)
 
 pub equalb_false : (xs ys : List ℕ) → equalb xs ys ≡ false → xs ≡ ys → ⊥
-equalb_false xs ys h e =
-    let t : equalb xs ys ≡ true = rw e (equalb_refl ys) in
-    let z : ◌≡◌ {A = ℕ} 0 1 = cc in
-    omega arith
+equalb_false xs ys h = other_text xs ys (sym h ∙ equalb_is xs ys)
 
 pub equalb_other : (xs ys : List ℕ) → (xs ≡ ys → ⊥) → equalb xs ys ≡ false
 equalb_other xs ys h = go (equalb xs ys) refl
@@ -39,8 +34,4 @@ equalb_other xs ys h = go (equalb xs ys) refl
 
 -- which of the two lists comes first does not matter
 pub equalb_sym : (xs ys : List ℕ) → equalb xs ys ≡ equalb ys xs
-equalb_sym xs ys = go (equalb xs ys) refl
-  where
-    go : (b : Bool) → equalb xs ys ≡ b → b ≡ equalb ys xs
-    go true p = rw (equalb_true xs ys p) (sym (equalb_refl ys))
-    go false p = sym (equalb_other ys xs (λ e. equalb_false xs ys p (sym e)))
+equalb_sym xs ys = equalb_is xs ys ∙ nat_list_eq_equiv.symm xs ys ∙ sym (equalb_is ys xs)

@@ -2,6 +2,4 @@ pub mod RunLaws
 pub mod WordLaws
 pub mod EqualityLaws
 pub mod OrderLaws
-mod CompareLoops
-mod CopyLoops
 pub mod Tests

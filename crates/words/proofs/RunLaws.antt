@@ -5,8 +5,9 @@ use mathlib.Core.List.{List, [], ◌∷◌, ◌++◌}
 use Prim.Native.Nat.{ℕ, zero, suc, ◌+◌, ◌-◌, ◌≤◌, ◌<◌}
 use native.Mathlib.Numerals.{add-one}
 use native.Mathlib.Omega.{arith}
-use lib.ListN.{length, get_or, drop, set, length-take, length-drop, length-set}
-use lib.Seq.{take-suc, drop-cons, take-length, get_or-take, get_or-drop, get_or-set_same, get_or-set_other, set_comm, sets, length-sets, ext_get_or}
+use lib.ListN.{length, get_or, take, drop, set, length-take, length-drop, length-set}
+use lib.Seq.{take-suc, drop-cons, take-length, get_or-take, get_or-drop, get_or-set_same, get_or-set_other, sets-eq, length-sets, ext_get_or}
+use Rattle.std.specs.List.{copy_within}
 use Rattle.words.specs.Runs.{run, splice}
 
 -- ---- a run
@@ -35,13 +36,7 @@ run_snoc s at n h =
     let l : n < length (drop at s) = rw (length-drop at s) (omega arith) in
     rw (add-one n, take-suc (drop at s) n 0 l, get_or-drop at s n 0)
 
--- what is left of a run from i on
-pub run_rest : (s : List ℕ) (at n i : ℕ) → at + n ≤ length s → i < n → run s (at + i) (n - i) ≡ get_or s (at + i) 0 ∷ run s (at + (i + 1)) (n - (i + 1))
-run_rest s at n i h k =
-    let l : n - i ≡ suc (n - (i + 1)) = omega arith in
-    let p : at + i + 1 ≡ at + (i + 1) = omega arith in
-    rw (l, ← p) (run_cons s (at + i) (n - (i + 1)) (omega arith))
-
+-- what is left of a run past its end
 pub run_none : (s : List ℕ) (at n i : ℕ) → n ≤ i → run s at (n - i) ≡ []
 unfolding run
 run_none s at n i h = let l : n - i ≡ 0 = omega arith in rw l
@@ -69,6 +64,18 @@ run_run s at n i m h k =
 pub length_splice : (s : List ℕ) (at : ℕ) (xs : List ℕ) → length (splice s at xs) ≡ length s
 unfolding splice
 length_splice s at xs = length-sets s at xs
+
+-- by its three parts, where what is written fits
+pub splice_is : (s : List ℕ) (at : ℕ) (xs : List ℕ) (n : ℕ) → n ≡ length xs → at + n ≤ length s → splice s at xs ≡ take at s ++ xs ++ drop (at + n) s
+unfolding splice
+splice_is s at xs n e h = rw e (sets-eq xs s at (omega arith))
+
+-- what the library's move within a list leaves
+pub moved_is : (s t : List ℕ) (from to n : ℕ) → from + n ≤ length s → to + n ≤ length s → t ≡ copy_within s from (from + n) to → t ≡ splice s to (run s from n)
+unfolding run
+moved_is s t from to n h k e =
+    let same : from + n - from ≡ n = omega arith in
+    e ∙ rw same (sym (splice_is s to (run s from n) n (sym (length_run s from n h)) k))
 
 -- a byte outside is as it was
 pub get_d_splice_other : (s : List ℕ) (at : ℕ) (xs : List ℕ) (j : ℕ) → (j < at) ⊎ (at + length xs ≤ j) → get_or (splice s at xs) j 0 ≡ get_or s j 0
@@ -110,23 +117,10 @@ run_splice_same s at xs h =
     let z : at + 0 ≡ at = omega arith in
     (rw z at (run_splice_within s at xs 0 (length xs) h (omega arith))) ∙ run_whole xs
 
--- ---- one byte more
--- after what was written
+-- ---- one byte more, after what was written
 pub splice_after : (s : List ℕ) (at : ℕ) (xs : List ℕ) (y : ℕ) → set (splice s at xs) (at + length xs) y ≡ splice s at (xs ++ (y ∷ []))
 unfolding splice
 splice_after s at [] y = let z : at + 0 ≡ at = omega arith in rw z
 splice_after s at (x ∷ xs) y =
     let z : at + suc (length xs) ≡ suc at + length xs = omega arith in
     rw z (splice_after (set s at x) (suc at) xs y)
-
--- before it
-splice_set : (s : List ℕ) (at : ℕ) (xs : List ℕ) (j y : ℕ) → j < at → set (splice s at xs) j y ≡ splice (set s j y) at xs
-unfolding splice
-splice_set s at [] j y h = refl
-splice_set s at (x ∷ xs) j y h =
-    let ne : at ≢ j = λ e. omega arith in
-    splice_set (set s at x) (suc at) xs j y (omega arith) ∙ ap (λ l. sets l (suc at) xs) (set_comm s at j x y ne)
-
-pub splice_before : (s : List ℕ) (at : ℕ) (xs : List ℕ) (y : ℕ) → set (splice s (at + 1) xs) at y ≡ splice s at (y ∷ xs)
-unfolding splice
-splice_before s at xs y = splice_set s (at + 1) xs at y (omega arith) ∙ rw (add-one at)

@@ -5,7 +5,9 @@ use mathlib.Core.List.{List, [], ◌∷◌}
 use Prim.Native.Nat.{ℕ, zero, suc, ◌+◌, ◌*◌, ◌/◌, ◌%◌, ◌≤◌, ◌<◌, ◌^◌}
 use native.Mathlib.Omega.{arith}
 use native.Mathlib.Nat.{pow-succ'}
-use lib.ListN.{length, get_or, set, length-take}
+use lib.ListN.{length, get_or, length-take}
+use Rattle.std.proofs.Common.{w32}
+use Rattle.std.specs.Int.{to_le_bytes}
 use Rattle.words.specs.Runs.{run, splice}
 use Rattle.words.specs.Words.{number, bytes_of, word, set_word}
 use Rattle.words.proofs.RunLaws.{run_cons, run_run, length_splice, run_splice_other, run_splice_within, run_splice_same}
@@ -22,6 +24,14 @@ pub length_bytes_of : (k v : ℕ) → length (bytes_of k v) ≡ k
 unfolding bytes_of
 length_bytes_of zero v = refl
 length_bytes_of (suc k) v = ap suc (length_bytes_of k (v / 256))
+
+-- the four bytes that the library writes
+pub bytes_of_four : (v : ℕ) → to_le_bytes w32 v ≡ bytes_of 4 v
+unfolding bytes_of
+bytes_of_four v =
+    let two : v / 65536 ≡ v / 256 / 256 = omega arith in
+    let three : v / 16777216 ≡ v / 256 / 256 / 256 = omega arith in
+    rw (two, three)
 
 -- k bytes spell every number below 256 ^ k
 pub number_bytes_of : (k v : ℕ) → v < 256 ^ k → number (bytes_of k v) ≡ v
@@ -67,18 +77,6 @@ unfolding word
 word_splice_within s at xs i h k = ap number (run_splice_within s at xs i 4 h k)
 
 -- ---- a list with a word written over
--- the four stores
-pub set_word_bytes : (s : List ℕ) (at v : ℕ)
-    → set (set (set (set s at (v % 256)) (at + 1) (v / 256 % 256)) (at + 2) (v / 65536 % 256)) (at + 3) (v / 16777216 % 256) ≡ set_word s at v
-unfolding set_word splice bytes_of
-set_word_bytes s at v =
-    let two : v / 65536 ≡ v / 256 / 256 = omega arith in
-    let three : v / 16777216 ≡ v / 256 / 256 / 256 = omega arith in
-    let a1 : at + 1 ≡ suc at = omega arith in
-    let a2 : at + 2 ≡ suc (suc at) = omega arith in
-    let a3 : at + 3 ≡ suc (suc (suc at)) = omega arith in
-    rw (two, three, a1, a2, a3)
-
 pub length_set_word : (s : List ℕ) (at v : ℕ) → length (set_word s at v) ≡ length s
 unfolding set_word
 length_set_word s at v = length_splice s at (bytes_of 4 v)

@@ -3,8 +3,8 @@ use Rattle.std.specs.Prelude.{◌≡◌, refl, false, [], ◌∷◌}
 use Rattle.words.specs.Runs.{run, splice}
 use Rattle.words.specs.Words.{number, bytes_of, word, set_word}
 use Rattle.words.specs.Equality.{equalb}
-use Rattle.words.specs.declared.ordering.Order.TheVariants.{Less, Greater}
-use Rattle.words.specs.Order.{order_of, decide, order}
+use Rattle.words.specs.Order.{order}
+use Rattle.std.specs.declared.cmp.Ordering.TheVariants.{Less, Greater}
 
 part_of_list : run (1 ∷ 2 ∷ 3 ∷ 4 ∷ []) 1 2 ≡ 2 ∷ 3 ∷ []
 unfolding run
@@ -31,9 +31,9 @@ unfolding equalb
 longer_differs = refl
 
 prefix_first : order (97 ∷ []) (97 ∷ 98 ∷ []) ≡ Less
-unfolding order decide order_of
+unfolding order
 prefix_first = refl
 
 byte_before_length : order (98 ∷ []) (97 ∷ 98 ∷ []) ≡ Greater
-unfolding order decide order_of
+unfolding order
 byte_before_length = refl

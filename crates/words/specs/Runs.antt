@@ -8,6 +8,6 @@ run s at n = take n (drop at s)
 
 -- the list with xs written over it, byte after byte, from `at` on. A byte that would lie past the end is not written,
 -- so that the length stays whatever `at` is. Where xs fits, this is take at s ++ xs ++ drop (at + length xs) s
--- (proofs/RunLaws.antt, `splice-is`)
+-- (proofs/RunLaws.antt, `splice_is`)
 unfoldable pub splice : List ℕ → ℕ → List ℕ → List ℕ
 splice s at xs = sets s at xs

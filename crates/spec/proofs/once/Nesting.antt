@@ -10,8 +10,8 @@ use lib.Dec.{eqb}
 use lib.ListN.{length, get_or, set}
 use borrow.Author.Tests.{eqb-true, ne_eqb}
 use Rattle.words.specs.Order.{pick, order}
-use Rattle.words.specs.declared.ordering.Order.{Order}
-use Rattle.words.specs.declared.ordering.Order.TheVariants.{Less, Equal, Greater}
+use Rattle.std.specs.declared.cmp.Ordering.{Ordering}
+use Rattle.std.specs.declared.cmp.Ordering.TheVariants.{Less, Equal, Greater}
 use Rattle.words.specs.Equality.{equalb}
 use Rattle.spec.specs.Basics.{Text}
 use Rattle.spec.specs.State.{SetId, MergingEntry, static, source, dynamic}
@@ -213,7 +213,7 @@ unfolding insert_static here_or_later
 sum_insert g x [] = refl
 sum_insert g x (y ∷ ys) = go (order x.key y.key) (sum_insert g x ys)
   where
-    go : (o : Order) → sum_by g (insert_static x ys) ≡ g x + sum_by g ys → sum_by g (here_or_later o (x ∷ y ∷ ys) (y ∷ insert_static x ys)) ≡ g x + (g y + sum_by g ys)
+    go : (o : Ordering) → sum_by g (insert_static x ys) ≡ g x + sum_by g ys → sum_by g (here_or_later o (x ∷ y ∷ ys) (y ∷ insert_static x ys)) ≡ g x + (g y + sum_by g ys)
     go Less h = omega arith
     go Equal h = omega arith
     go Greater h = omega arith

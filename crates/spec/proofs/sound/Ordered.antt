@@ -9,8 +9,8 @@ use lib.Dec.{eqb}
 use lib.ListN.{length, get_or, set, take, get_or-append}
 use lib.Seq.{get_or-append_seam}
 use Rattle.words.specs.Order.{pick, order}
-use Rattle.words.specs.declared.ordering.Order.{Order}
-use Rattle.words.specs.declared.ordering.Order.TheVariants.{Less, Equal, Greater}
+use Rattle.std.specs.declared.cmp.Ordering.{Ordering}
+use Rattle.std.specs.declared.cmp.Ordering.TheVariants.{Less, Equal, Greater}
 use Rattle.spec.specs.Basics.{Text, NodeId, ExprId, NameId}
 use Rattle.spec.specs.Keys.{AttrKind, static_key, dynamic_key, kind, flag, text, pointer, attr_kind, get_str_literal}
 use Rattle.spec.specs.Sheet.{Node}
@@ -467,7 +467,7 @@ unfolding insert_static here_or_later
 insert_below n x [] a b = all_append _ (key_ids x) [] a tt
 insert_below n x (y ∷ ys) a b = go (order x.key y.key) (insert_below n x ys a)
   where
-    go : (o : Order) → (AllBelow n (ids_of key_ids ys) → AllBelow n (ids_of key_ids (insert_static x ys)))
+    go : (o : Ordering) → (AllBelow n (ids_of key_ids ys) → AllBelow n (ids_of key_ids (insert_static x ys)))
         → AllBelow n (ids_of key_ids (here_or_later o (x ∷ y ∷ ys) (y ∷ insert_static x ys)))
     go Less f = all_append _ (key_ids x) (ids_of key_ids (y ∷ ys)) a b
     go Equal f = all_append _ (key_ids x) (ids_of key_ids (y ∷ ys)) a b

@@ -10,8 +10,8 @@ use lib.Dec.{eqb}
 use lib.ListN.{length, get_or, set}
 use borrow.Author.Tests.{eqb-true, eq-eqb}
 use Rattle.words.specs.Order.{pick, order}
-use Rattle.words.specs.declared.ordering.Order.{Order}
-use Rattle.words.specs.declared.ordering.Order.TheVariants.{Less, Equal, Greater}
+use Rattle.std.specs.declared.cmp.Ordering.{Ordering}
+use Rattle.std.specs.declared.cmp.Ordering.TheVariants.{Less, Equal, Greater}
 use Rattle.spec.specs.Basics.{Text, NodeId, ExprId, NameId}
 use Rattle.spec.specs.Keys.{AttrKind, static_key, dynamic_key, kind, flag, text, pointer, items, attr_kind, get_str_literal}
 use Rattle.spec.specs.Sheet.{Node}
@@ -386,7 +386,7 @@ unfolding insert_static here_or_later
 all_insert P x [] p a = (p, tt)
 all_insert P x (y ∷ ys) p a = go (order x.key y.key) (all_insert P x ys p a.1)
   where
-    go : (o : Order) → All P (insert_static x ys) → All P (here_or_later o (x ∷ y ∷ ys) (y ∷ insert_static x ys))
+    go : (o : Ordering) → All P (insert_static x ys) → All P (here_or_later o (x ∷ y ∷ ys) (y ∷ insert_static x ys))
     go Less r = (p, a)
     go Equal r = (p, a)
     go Greater r = (a.0, r)

@@ -11,4 +11,4 @@ pub returns-then-name_count-x : goal.returns-then-name_count-x
 returns-then-name_count-x c = no_names _ _ _ _ c.args.sought.now _ c.if-y-x.false (omega (arith, c.name_count.ensures.0, c.if-name_count-x.true)) refl
 
 pub returns : goal.returns
-returns c = itself _ _ _ _ _ _ c.if-y-x.false (omega (arith, c.name_count.ensures.0, c.if-name_count-x.false)) c.equal_to.ensures
+returns c = itself _ _ _ _ _ _ c.if-y-x.false (omega (arith, c.name_count.ensures.0, c.if-name_count-x.false)) c.equal.ensures
