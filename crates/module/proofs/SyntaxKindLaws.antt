@@ -1,14 +1,14 @@
 -- The kinds of the sheet's nodes and their numbers: each is told by the other.
 -- Assumes nothing.
 use mathlib.Core.Path.{◌≡◌, refl, sym, ap, ◌∙◌}
-use Prim.Native.Nat.{ℕ, zero, suc, ◌+◌, ◌<◌}
+use Prim.Native.Nat.{ℕ, zero, suc, ◌+◌, ◌<◌, ◌≤◌}
 use native.Mathlib.Omega.{arith}
 use denote.Enum.Declared.{tag_of}
-use mathlib.Core.Bool.{Bool, true, ◌&&◌}
+use mathlib.Core.Bool.{Bool, true, false, ◌&&◌}
 use mathlib.Core.List.{List, [], ◌∷◌}
 use mathlib.Mathlib.Data.Bool.Basic.{and_elim_left, and_elim_right}
 use lib.Dec.{eqb}
-use lib.ListN.{get_or-eq_default}
+use lib.ListN.{length, drop, get_or-eq_default}
 use borrow.Author.Tests.{eqb-true}
 use Rattle.std.specs.Prelude.{Option, Some, None, get_or}
 use Rattle.module.specs.SyntaxKinds.{number_of_syntax, syntax_kinds, syntax_of_number}
@@ -120,3 +120,41 @@ told_from i (Some j ∷ xs) (suc n) k h e =
 pub syntax_told : (n : ℕ) (k : SyntaxKind) → syntax_of_number n ≡ Some k → number_of_syntax k ≡ n
 unfolding number_of_syntax syntax_kinds syntax_of_number numbered
 syntax_told n k e = told_from 0 syntax_kinds n k refl e ∙ omega arith
+
+-- ---- what follows
+pub syntax_same : (j k : SyntaxKind) → number_of_syntax j ≡ number_of_syntax k → j ≡ k
+syntax_same j k e =
+    let h : Some j ≡ Some k = sym (syntax_back j) ∙ (ap syntax_of_number e ∙ syntax_back k) in
+    cc
+
+-- a kind's number is 1 to 33
+in_list : (xs : List (Option SyntaxKind)) (n : ℕ) (k : SyntaxKind) → get_or xs n None ≡ Some k → n < length xs
+in_list [] n k e = cc
+in_list (x ∷ xs) zero k e = omega arith
+in_list (x ∷ xs) (suc n) k e = omega (arith, in_list xs n k e)
+
+listed_within : (n : ℕ) (k : SyntaxKind) → syntax_of_number n ≡ Some k → (0 < n) × (n ≤ 33)
+unfolding syntax_kinds syntax_of_number
+listed_within zero k e = cc
+listed_within (suc n) k e = (omega arith, omega (arith, in_list syntax_kinds (suc n) k e))
+
+pub syntax_within : (k : SyntaxKind) → (0 < number_of_syntax k) × (number_of_syntax k ≤ 33)
+syntax_within k = listed_within (number_of_syntax k) k (syntax_back k)
+
+-- and each number from 1 to 33 has a kind
+all_some : List (Option SyntaxKind) → Bool
+all_some [] = true
+all_some (None ∷ xs) = false
+all_some (Some k ∷ xs) = all_some xs
+
+gap : (xs : List (Option SyntaxKind)) (n : ℕ) → all_some xs ≡ true → get_or xs n None ≡ None → length xs ≤ n
+unfolding all_some
+gap [] n h e = omega arith
+gap (None ∷ xs) n h e = cc
+gap (Some k ∷ xs) zero h e = cc
+gap (Some k ∷ xs) (suc n) h e = omega (arith, gap xs n h e)
+
+pub syntax_gap : (n : ℕ) → syntax_of_number n ≡ None → 0 < n → 33 < n
+unfolding syntax_kinds syntax_of_number all_some
+syntax_gap zero e h = absurd (omega (arith, h))
+syntax_gap (suc n) e h = omega (arith, gap (drop 1 syntax_kinds) n refl e)

@@ -47,8 +47,8 @@ impl SyntaxKind {
         self as u32
     }
 
-    #[tactic(auto, unfolding(crate::specs::SyntaxKinds::syntax_of_number, crate::specs::SyntaxKinds::syntax_kinds))]
     // The kind that has the number. No kind has 0 or a number above 33.
+    #[tactic(auto, unfolding(crate::specs::SyntaxKinds::syntax_of_number, crate::specs::SyntaxKinds::syntax_kinds))]
     pub fn of(number: u32) -> Option<SyntaxKind>
         ensures { result ≡ syntax_of_number number }
     {
