@@ -1,4 +1,5 @@
 pub mod NodeLaws
+pub mod KindLaws
 pub mod WithinLaws
 pub mod BringKidLaws
 pub mod BringTextLaws

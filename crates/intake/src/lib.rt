@@ -5,4 +5,4 @@ mod bring;
 mod nodes;
 
 pub use bring::bring_nodes;
-pub use nodes::{kid, kid_count, node_flag, node_kind, node_pointer, node_text};
+pub use nodes::{kid, kid_count, node_flag, node_kind, node_pointer, node_text, syntax_kind};

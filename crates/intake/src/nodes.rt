@@ -8,10 +8,11 @@ ghost use Rattle.layout.specs.Texts.{text_in};
 ghost use Rattle.layout.specs.Nodes.{first_kid, kid_in, nodes_of};
 ghost use Rattle.intake.specs.NodeReads.{node_word};
 ghost use Rattle.module.specs.Ids.{node_of, pointer_of};
+ghost use Rattle.module.specs.SyntaxKinds.{syntax_of_number};
 
 use layout::at_most;
 use layout::tables::{ABSENT, KID_LIMIT, KIDS, NODE_COUNT, NODE_LIMIT, NODE_ROW, NODES};
-use module::{NodeId, Pointer, TextId};
+use module::{NodeId, Pointer, SyntaxKind, TextId};
 use words::get32;
 
 pub const KIND: usize = 4;
@@ -47,6 +48,14 @@ pub fn node_kind(store: &[u8], n: NodeId) -> u32
     ensures { result ≡ kind (nodes_of store.now) n.0 }
 {
     node_word(store, n, KIND)
+}
+
+// The kind of a node, where its number is one of a kind.
+pub fn syntax_kind(store: &[u8], n: NodeId) -> Option<SyntaxKind>
+    requires { Long store.now }
+    ensures { result ≡ syntax_of_number (kind (nodes_of store.now) n.0) }
+{
+    SyntaxKind::of(node_kind(store, n))
 }
 
 pub fn node_flag(store: &[u8], n: NodeId) -> u32

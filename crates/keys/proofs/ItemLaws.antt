@@ -1,5 +1,6 @@
 -- The items of a node from a place on. Assumes nothing.
 use mathlib.Core.Path.{◌≡◌, refl, sym, ap, ◌∙◌}
+use mathlib.Core.Bool.{true, false}
 use mathlib.Core.List.{List, [], ◌∷◌}
 use mathlib.Core.Option.{Option, none, some}
 use Prim.Native.Nat.{ℕ, ◌+◌, ◌≤◌, ◌<◌}
@@ -15,6 +16,7 @@ use Rattle.module.specs.Ids.{node_of}
 use Rattle.module.specs.declared.ids.NodeId as code_id
 use Rattle.keys.specs.Items.{items_from, First, Next}
 use Rattle.std.specs.Prelude as rust
+use Rattle.std.specs.Option.{is_some}
 
 -- ---- where a list of items begins
 module _ (nodes : List Node) (n : NodeId) where
@@ -81,3 +83,29 @@ module _ (nodes : List Node) (i : ℕ) (n : NodeId) (r : rust.Option (code_id.No
   pub next_first : (k : code_id.NodeId) (j : ℕ) → r ≡ rust.Some (k, j) → First nodes i n k.0 j
   unfolding Next
   next_first k j q = rw q at e
+
+  -- what `is_some` says of it
+  pub next_is_not : is_some r ≡ false → items_from nodes i n ≡ []
+  unfolding Next
+  next_is_not q = go r e q
+    where
+      go : (o : rust.Option (code_id.NodeId × ℕ)) → Next nodes i n o → is_some o ≡ false → items_from nodes i n ≡ []
+      go rust.None e q = e
+      go (rust.Some x) e q = cc
+
+  pub next_is : is_some r ≡ true → (x : code_id.NodeId × ℕ) × (r ≡ rust.Some x)
+  next_is q = go r q
+    where
+      go : (o : rust.Option (code_id.NodeId × ℕ)) → is_some o ≡ true → (x : code_id.NodeId × ℕ) × (o ≡ rust.Some x)
+      go rust.None q = cc
+      go (rust.Some x) q = (x, refl)
+
+-- ---- what a caller knows of a kid
+module _ {m : rust.Option code_id.NodeId} {o : Option NodeId} where
+  pub kid_read : {k : code_id.NodeId} → m ≡ rust.Some k → node_of m ≡ o → some k.0 ≡ o
+  unfolding node_of
+  kid_read q e = sym (ap node_of q) ∙ e
+
+  pub kid_missing : m ≡ rust.None → node_of m ≡ o → none ≡ o
+  unfolding node_of
+  kid_missing q e = sym (ap node_of q) ∙ e

@@ -4,6 +4,7 @@ use mathlib.Core.Bool.{true, false}
 use mathlib.Core.List.{List, [], ◌∷◌}
 use mathlib.Core.Option.{Option, none, some}
 use Prim.Native.Nat.{ℕ}
+use lib.Dec.{eqb}
 use borrow.Author.Tests.{eq-eqb, ne_eqb}
 use Rattle.spec.specs.Basics.{Text, NodeId, ExprId}
 use Rattle.spec.specs.Sheet.{Node}
@@ -18,19 +19,19 @@ use Rattle.module.specs.declared.ids.TextId as code_text
 use Rattle.layout.specs.Layout.{absent}
 use Rattle.layout.specs.Texts.{text_in, maybe_text}
 use Rattle.layout.proofs.Frames.{text_absent}
-use Rattle.keys.specs.Items.{items_from, First}
+use Rattle.keys.specs.Items.{items_from, First, Next}
 use Rattle.keys.specs.AstUtils.{ident_name, set_kind, Interpolated}
 use Rattle.keys.proofs.AnswerLaws.{text_there, text_missing}
-use Rattle.keys.proofs.ItemLaws.{items_are}
+use Rattle.keys.proofs.ItemLaws.{items_are, next_first, next_is}
+use Rattle.std.specs.Option.{is_some, IfSome}
 use Rattle.std.specs.Prelude as rust
 
 -- ---- by the flag of a node
 module _ (nodes : List Node) (n : NodeId) (f : ℕ) (e : f ≡ flag nodes n) where
-  pub ident_named : f ≡ 1 → (t : Text) → t ≡ text nodes n → some t ≡ ident_name nodes n
-  ident_named h t q = rw (← e, eq-eqb f 1 h, q)
-
-  pub ident_nameless : (f ≡ 1 → ⊥) → none ≡ ident_name nodes n
-  ident_nameless h = rw (← e, ne_eqb f 1 h)
+  pub ident_named : (s : List ℕ) (r : rust.Option code_text.TextId) → is_some r ≡ eqb f 1 → IfSome r (λ t. text_in s t.0 ≡ text nodes n) → maybe_text s r ≡ ident_name nodes n
+  unfolding maybe_text
+  ident_named s rust.None v x = rw (← e, ← v)
+  ident_named s (rust.Some t) v x = rw (← e, ← v) (ap some x)
 
   pub set_rec : f ≡ 1 → RecAttrset ≡ set_kind nodes n
   set_rec h = rw (← e, eq-eqb f 1 h)
@@ -51,6 +52,9 @@ module _ (nodes : List Node) (n : NodeId) where
     pub parts_more : (q j : ℕ) → First nodes i n q j → none ≡ get_str_literal nodes n
     unfolding get_str_literal literal_of
     parts_more q j b = rw (two_parts q j b)
+
+    pub parts_two : (r : rust.Option (code_id.NodeId × ℕ)) → Next nodes i n r → is_some r ≡ true → none ≡ get_str_literal nodes n
+    parts_two r e q = let x = next_is nodes i n r e q in parts_more x.0.0.0 x.0.1 (next_first nodes i n r e x.0.0 x.0.1 x.1)
 
     module _ (o : items_from nodes i n ≡ []) (k : ℕ) (e : k ≡ kind nodes p) where
       one_part : items nodes n ≡ p ∷ []
@@ -76,14 +80,17 @@ module _ {nodes : List Node} {n : NodeId} {at : ℕ} (s : Seeking nodes n at) wh
   unfolding has_interpolation
   seeking_end e = record { says = λ lower merge. sym (s.same lower merge ∙ ap (has_interpolation nodes lower merge) e) }
 
-  module _ (p i : ℕ) (a : First nodes at n p i) (k : ℕ) (e : k ≡ kind nodes p) where
-    pub seeking_found : k ≡ 33 → Interpolated nodes n true
-    unfolding has_interpolation
-    seeking_found h = record { says = λ lower merge. sym (s.same lower merge ∙ rw (a.items, ← e, eq-eqb k 33 h)) }
+  pub seeking_on : {i : ℕ} → items_from nodes at n ≡ items_from nodes i n → Seeking nodes n i
+  seeking_on q = record { same = λ lower merge. s.same lower merge ∙ ap (has_interpolation nodes lower merge) q }
 
-    pub seeking_more : (k ≡ 33 → ⊥) → Seeking nodes n i
+  module _ (p i : ℕ) (a : items_from nodes at n ≡ p ∷ items_from nodes i n) where
+    pub seeking_found : kind nodes p ≡ 33 → Interpolated nodes n true
     unfolding has_interpolation
-    seeking_more h = record { same = λ lower merge. s.same lower merge ∙ rw (a.items, ← e, ne_eqb k 33 h) }
+    seeking_found h = record { says = λ lower merge. sym (s.same lower merge ∙ rw (a, eq-eqb (kind nodes p) 33 h)) }
+
+    pub seeking_more : (kind nodes p ≡ 33 → ⊥) → Seeking nodes n i
+    unfolding has_interpolation
+    seeking_more h = record { same = λ lower merge. s.same lower merge ∙ rw (a, ne_eqb (kind nodes p) 33 h) }
 
 -- ---- keys
 module _ (s : List ℕ) (nodes : List Node) (n : NodeId) (m : rust.Option code_text.TextId) (e : maybe_text s m ≡ get_str_literal nodes n) where
@@ -97,7 +104,7 @@ module _ (s : List ℕ) (nodes : List Node) (n : NodeId) (m : rust.Option code_t
 
 module _ (nodes : List Node) where
   module _ (m : rust.Option code_id.NodeId) where
-    pub inside_none : m ≡ rust.None → spec.dynamic_key none ≡ inside_dynamic nodes (node_of m)
+    pub inside_none : m ≡ rust.None → spec.dynamic_key (node_of m) ≡ inside_dynamic nodes (node_of m)
     unfolding inside_dynamic node_of
     inside_none q = rw q
 

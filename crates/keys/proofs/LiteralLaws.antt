@@ -23,9 +23,9 @@ use Rattle.module.specs.Literals.{float_bits, nat_of, literal_of, NotNegative, V
 use Rattle.module.specs.declared.literal.Literal.TheVariants as code
 use Rattle.module.proofs.LiteralLaws.{float_valid, integer_back}
 use Rattle.layout.specs.Texts.{text_in}
-use Rattle.keys.specs.Literals.{capped, number_from, float_held, integer_held, literal_held, alloc_literal, literal_given, ValidGiven, LiteralRead}
-use Rattle.keys.specs.declared.literals.Spelling.TheVariants.{Digits, Bytes}
-use Rattle.keys.proofs.NumberLaws.{digits_say, bytes_say}
+use Rattle.keys.specs.Literals.{capped, float_held, integer_held, literal_held, alloc_literal, literal_given, ValidGiven, LiteralRead}
+use Rattle.module.specs.declared.syntax_kind.SyntaxKind.{SyntaxKind}
+use Rattle.module.specs.declared.syntax_kind.SyntaxKind.TheVariants as kind
 use Rattle.module.specs.declared.literal.Literal as rust_literal
 use Rattle.std.specs.Prelude as rust
 
@@ -40,9 +40,9 @@ module _ (s : List ℕ) (nodes : List Node) (n : NodeId) (f : ℕ) (e : f ≡ fl
   unfolding float_held
   float_none h = held_none s (float_held nodes n) (rw (← e, ne_eqb f 1 h))
 
-  module _ (h : f ≡ 1) (t : ℕ) (q : text_in s t ≡ text nodes n) (bits : ℕ) (b : bits ≡ capped (number_from Bytes 0 (text_in s t))) where
+  module _ (h : f ≡ 1) (t : ℕ) (q : text_in s t ≡ text nodes n) (bits : ℕ) (b : bits ≡ capped (bits_from 0 (text_in s t))) where
     bits_are : bits ≡ capped (bits_from 0 (text nodes n))
-    bits_are = b ∙ ap capped (bytes_say (text_in s t) 0 ∙ ap (bits_from 0) q)
+    bits_are = b ∙ ap (λ x. capped (bits_from 0 x)) q
 
     pub float_over : 9218868437227405312 < bits → LiteralRead s (float_held nodes n) rust.None
     unfolding float_held
@@ -59,9 +59,9 @@ module _ (s : List ℕ) (nodes : List Node) (n : NodeId) (f : ℕ) (e : f ≡ fl
         }
 
 -- ---- an Integer
-module _ (s : List ℕ) (nodes : List Node) (n : NodeId) (t : ℕ) (q : text_in s t ≡ text nodes n) (value : ℕ) (b : value ≡ capped (number_from Digits 0 (text_in s t))) where
+module _ (s : List ℕ) (nodes : List Node) (n : NodeId) (t : ℕ) (q : text_in s t ≡ text nodes n) (value : ℕ) (b : value ≡ capped (value_from 0 (text_in s t))) where
   value_is : value ≡ capped (value_from 0 (text nodes n))
-  value_is = b ∙ ap capped (digits_say (text_in s t) 0 ∙ ap (value_from 0) q)
+  value_is = b ∙ ap (λ x. capped (value_from 0 x)) q
 
   pub integer_over : 9223372036854775807 < value → LiteralRead s (integer_held nodes n) rust.None
   unfolding integer_held
@@ -75,24 +75,34 @@ module _ (s : List ℕ) (nodes : List Node) (n : NodeId) (t : ℕ) (q : text_in 
       let back : y ≡ x = w ∙ integer_back x v in
       record { is = rw (same, le-leb value 9223372036854775807 l, back, g); valid = rw back v }
 
--- ---- by the number of the kind
-module _ (s : List ℕ) (nodes : List Node) (n : NodeId) (k : ℕ) where
-  pub literal_float : k ≡ 8 → {r : rust.Option rust_literal.Literal} → LiteralRead s (float_held nodes n) r → LiteralRead s (literal_held nodes k n) r
+-- ---- by the kind
+module _ (s : List ℕ) (nodes : List Node) (n : NodeId) (o : rust.Option SyntaxKind) where
+  pub literal_none : o ≡ rust.None → LiteralRead s (literal_held nodes o n) rust.None
   unfolding literal_held
-  literal_float h g = record { is = g.is ∙ rw (eq-eqb k 8 h); valid = g.valid }
+  literal_none q = held_none s (literal_held nodes o n) (rw q)
 
-  pub literal_integer : (k ≡ 8 → ⊥) → k ≡ 9 → {r : rust.Option rust_literal.Literal} → LiteralRead s (integer_held nodes n) r → LiteralRead s (literal_held nodes k n) r
-  unfolding literal_held
-  literal_integer o h g = record { is = g.is ∙ rw (ne_eqb k 8 o, eq-eqb k 9 h); valid = g.valid }
+  module _ (k : SyntaxKind) (q : o ≡ rust.Some k) where
+    pub literal_float : k ≡ kind.Float → {r : rust.Option rust_literal.Literal} → LiteralRead s (float_held nodes n) r → LiteralRead s (literal_held nodes o n) r
+    unfolding literal_held
+    literal_float h g = rw (q, h) g
 
-  pub literal_other : (k ≡ 8 → ⊥) → (k ≡ 9 → ⊥) → LiteralRead s (literal_held nodes k n) rust.None
-  unfolding literal_held
-  literal_other o h = held_none s (literal_held nodes k n) (rw (ne_eqb k 8 o, ne_eqb k 9 h))
+    pub literal_integer : k ≡ kind.Integer → {r : rust.Option rust_literal.Literal} → LiteralRead s (integer_held nodes n) r → LiteralRead s (literal_held nodes o n) r
+    unfolding literal_held
+    literal_integer h g = rw (q, h) g
+
+    pub literal_other : (k ≡ kind.Float → ⊥) → (k ≡ kind.Integer → ⊥) → LiteralRead s (literal_held nodes o n) rust.None
+    unfolding literal_held
+    literal_other f i = held_none s (literal_held nodes o n) (rw q (go k f i))
+      where
+        go : (k : SyntaxKind) → (k ≡ kind.Float → ⊥) → (k ≡ kind.Integer → ⊥) → none ≡ literal_held nodes (rust.Some k) n
+        go kind.Float f i = absurd (f refl)
+        go kind.Integer f i = absurd (i refl)
+        go _ f i = refl
 
 -- ---- what lowering allocates
 module _ (nodes : List Node) (lower : NodeId → Low ExprId) (merge : SetId → NodeId → Low (Unit {0})) (n : NodeId) where
   -- THEOREM. Lowering a Float allocates its literal, if its bits are at most those of infinity.
-  pub lowers_float : (flag nodes n ≡ 1 → bits_from 0 (text nodes n) ≤ 9218868437227405312) → lower_float nodes lower merge n ≡ alloc_literal nodes n (literal_held nodes 8 n)
+  pub lowers_float : (flag nodes n ≡ 1 → bits_from 0 (text nodes n) ≤ 9218868437227405312) → lower_float nodes lower merge n ≡ alloc_literal nodes n (literal_held nodes (rust.Some kind.Float) n)
   unfolding lower_float literal_held float_held alloc_literal when
   lowers_float h = go (eqb (flag nodes n) 1) refl
     where
@@ -103,7 +113,7 @@ module _ (nodes : List Node) (lower : NodeId → Low ExprId) (merge : SetId → 
       go false q = refl
 
   -- THEOREM. Lowering an Integer allocates its literal.
-  pub lowers_integer : lower_integer nodes lower merge n ≡ alloc_literal nodes n (literal_held nodes 9 n)
+  pub lowers_integer : lower_integer nodes lower merge n ≡ alloc_literal nodes n (literal_held nodes (rust.Some kind.Integer) n)
   unfolding lower_integer literal_held integer_held alloc_literal when
   lowers_integer = go (leb (value_from 0 (text nodes n)) 9223372036854775807)
     where

@@ -1,7 +1,7 @@
 -- The number that a text says, and the literal that a Float or an Integer is.
 use Rattle.std.specs.Prelude.{◌≡◌, List, [], ◌∷◌, ℕ, ◌+◌, ◌-◌, ◌*◌, min, eqb, leb, if◌then◌else◌}
 use Rattle.std.proofs.Math.Option.{Option, none, some}
-use Rattle.spec.specs.Basics.{Text, NodeId}
+use Rattle.spec.specs.Basics.{NodeId}
 use Rattle.spec.specs.Sheet.{Node, bits_from, value_from}
 use Rattle.spec.specs.Keys.{flag, text, pointer}
 use Rattle.spec.specs.Module as spec
@@ -9,24 +9,14 @@ use Rattle.spec.specs.Module.{float, integer}
 use Rattle.spec.specs.State.{Low, alloc_expr, alloc_missing}
 use Rattle.module.specs.Literals.{literal_of, Valid}
 use Rattle.layout.specs.Texts.{text_in}
-use Rattle.keys.specs.declared.literals.Spelling.{Spelling}
-use Rattle.keys.specs.declared.literals.Spelling.TheVariants.{Digits, Bytes}
+use Rattle.module.specs.declared.syntax_kind.SyntaxKind.{SyntaxKind}
+use Rattle.module.specs.declared.syntax_kind.SyntaxKind.TheVariants as kind
 use Rattle.module.specs.declared.literal.Literal as rust_literal
 use Rattle.std.specs.Prelude as rust
 
 -- ---- numbers whose value stops at 9,223,372,036,854,775,808
 abbrev pub capped : ℕ → ℕ
 capped v = min v 9223372036854775808
-
--- a number with one byte of its text more
-abbrev pub one_more : Spelling → ℕ → ℕ → ℕ
-one_more Digits v c = 10 * v + (c - 48)
-one_more Bytes v c = 256 * v + c
-
--- a text read on from a number
-unfoldable pub number_from : Spelling → ℕ → Text → ℕ
-number_from p v [] = v
-number_from p v (c ∷ t) = number_from p (one_more p v c) t
 
 -- ---- literals
 -- The literal of a Float: none for flag 0, and none for bits that are above infinity's, which no accepted sheet has.
@@ -40,9 +30,11 @@ float_held nodes n =
 unfoldable pub integer_held : List Node → NodeId → Option spec.Literal
 integer_held nodes n = if leb (value_from 0 (text nodes n)) 9223372036854775807 then some (integer (value_from 0 (text nodes n))) else none
 
--- by the number of the kind
-unfoldable pub literal_held : List Node → ℕ → NodeId → Option spec.Literal
-literal_held nodes k n = if eqb k 8 then float_held nodes n else if eqb k 9 then integer_held nodes n else none
+-- by the kind: none but those two have a literal
+unfoldable pub literal_held : List Node → rust.Option SyntaxKind → NodeId → Option spec.Literal
+literal_held nodes (rust.Some kind.Float) n = float_held nodes n
+literal_held nodes (rust.Some kind.Integer) n = integer_held nodes n
+literal_held nodes _ n = none
 
 -- the step that lowers a node with such a literal: Missing without a pointer where there is none
 unfoldable pub alloc_literal : List Node → NodeId → Option spec.Literal → Low ℕ

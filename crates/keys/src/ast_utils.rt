@@ -10,20 +10,9 @@ ghost use Rattle.layout.specs.Texts.{maybe_text};
 ghost use Rattle.keys.specs.AstUtils.{attr_kind_of, ident_name, set_kind, Interpolated};
 
 use crate::items::next_item;
-use intake::{kid, node_flag, node_kind, node_text};
+use intake::{kid, kid_count, node_flag, node_text, syntax_kind};
 use layout::tables::ABSENT;
-use module::{NameKind, NodeId, TextId};
-
-// The kinds of nodes that these functions ask for.
-const STR: u32 = 6;
-
-const PAREN: u32 = 15;
-
-const IDENT: u32 = 18;
-
-const LITERAL_PART: u32 = 32;
-
-const INTERPOLATION: u32 = 33;
+use module::{NameKind, NodeId, SyntaxKind, TextId};
 
 // Nodes are nested at most so deep.
 const DEPTH: u32 = 256;
@@ -44,20 +33,12 @@ pub fn flatten_paren(store: &[u8], place: Option<NodeId>) -> Option<NodeId>
     ensures { node_of result ≡ flatten_paren (nodes_of store.now) 256 (node_of place) }
 {
     let mut cur = place;
-    let mut left = DEPTH;
-    while 0 < left {
-        match cur {
-            None => {
-                return None;
-            }
-            Some(n) => {
-                if node_kind(store, n) != PAREN {
-                    return Some(n);
-                }
-                cur = kid(store, n, 0);
-            }
+    for _ in 0..DEPTH {
+        let n = cur?;
+        if syntax_kind(store, n) != Some(SyntaxKind::Paren) {
+            return Some(n);
         }
-        left -= 1;
+        cur = kid(store, n, 0);
     }
     cur
 }
@@ -67,10 +48,7 @@ pub fn name_of_ident(store: &[u8], n: NodeId) -> Option<TextId>
     requires { Long store.now }
     ensures { maybe_text store.now result ≡ ident_name (nodes_of store.now) n.0 }
 {
-    if node_flag(store, n) == 1 {
-        return Some(node_text(store, n));
-    }
-    None
+    (node_flag(store, n) == 1).then(|| node_text(store, n))
 }
 
 // The text of a Str without interpolation and with at most one part. With none it is the empty text.
@@ -78,18 +56,15 @@ pub fn get_str_literal(store: &[u8], n: NodeId) -> Option<TextId>
     requires { Long store.now }
     ensures { maybe_text store.now result ≡ get_str_literal (nodes_of store.now) n.0 }
 {
-    match next_item(store, n, 0) {
-        None => Some(EMPTY),
-        Some((part, next)) => match next_item(store, n, next) {
-            Some((_, _)) => None,
-            None => {
-                if node_kind(store, part) == LITERAL_PART {
-                    return Some(node_text(store, part));
-                }
-                None
-            }
-        },
+    let Some((part, next)) = next_item(store, n, 0) else {
+        return Some(EMPTY);
+    };
+    if next_item(store, n, next).is_some()
+        || syntax_kind(store, part) != Some(SyntaxKind::LiteralPart)
+    {
+        return None;
     }
+    Some(node_text(store, part))
 }
 
 pub fn name_kind_of_set(store: &[u8], n: NodeId) -> NameKind
@@ -97,9 +72,10 @@ pub fn name_kind_of_set(store: &[u8], n: NodeId) -> NameKind
     ensures { kind_of result ≡ set_kind (nodes_of store.now) n.0 }
 {
     if node_flag(store, n) == 1 {
-        return NameKind::RecAttrset;
+        NameKind::RecAttrset
+    } else {
+        NameKind::PlainAttrset
     }
-    NameKind::PlainAttrset
 }
 
 // Whether a part of a Str or a Path is an interpolation.
@@ -107,20 +83,14 @@ pub fn has_interpolation(store: &[u8], n: NodeId) -> bool
     requires { Long store.now }
     ensures { Interpolated (nodes_of store.now) n.0 result }
 {
-    let mut at: u32 = 0;
-    loop {
-        match next_item(store, n, at) {
-            None => {
-                return false;
-            }
-            Some((part, next)) => {
-                if node_kind(store, part) == INTERPOLATION {
-                    return true;
-                }
-                at = next;
+    for i in 0..kid_count(store, n) {
+        if let Some(part) = kid(store, n, i) {
+            if syntax_kind(store, part) == Some(SyntaxKind::Interpolation) {
+                return true;
             }
         }
     }
+    false
 }
 
 // The key that a Str is.
@@ -140,13 +110,8 @@ fn inside_dynamic(store: &[u8], place: Option<NodeId>) -> AttrKind
     ensures { attr_kind_of store.now result ≡ inside_dynamic (nodes_of store.now) (node_of place) }
 {
     match place {
-        None => AttrKind::Dynamic(None),
-        Some(n) => {
-            if node_kind(store, n) == STR {
-                return str_key(store, n);
-            }
-            AttrKind::Dynamic(Some(n))
-        }
+        Some(n) if syntax_kind(store, n) == Some(SyntaxKind::Str) => str_key(store, n),
+        _ => AttrKind::Dynamic(place),
     }
 }
 
@@ -155,12 +120,12 @@ pub fn attr_kind(store: &[u8], a: NodeId) -> AttrKind
     requires { Long store.now }
     ensures { attr_kind_of store.now result ≡ attr_kind (nodes_of store.now) a.0 }
 {
-    let kind = node_kind(store, a);
-    if kind == IDENT {
-        return AttrKind::Static(node_text(store, a));
+    let kind = syntax_kind(store, a);
+    if kind == Some(SyntaxKind::Ident) {
+        AttrKind::Static(node_text(store, a))
+    } else if kind == Some(SyntaxKind::Str) {
+        str_key(store, a)
+    } else {
+        inside_dynamic(store, flatten_paren(store, kid(store, a, 0)))
     }
-    if kind == STR {
-        return str_key(store, a);
-    }
-    inside_dynamic(store, flatten_paren(store, kid(store, a, 0)))
 }

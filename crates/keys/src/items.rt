@@ -11,16 +11,9 @@ pub fn next_item(store: &[u8], n: NodeId, i: u32) -> Option<(NodeId, u32)>
     requires { Long store.now }
     ensures { Next (nodes_of store.now) i n.0 result }
 {
-    let count = kid_count(store, n);
-    let mut at = i;
-    while at < count {
-        match kid(store, n, at) {
-            Some(k) => {
-                return Some((k, at + 1));
-            }
-            None => {
-                at += 1;
-            }
+    for at in i..kid_count(store, n) {
+        if let Some(k) = kid(store, n, at) {
+            return Some((k, at + 1));
         }
     }
     None

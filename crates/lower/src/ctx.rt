@@ -12,6 +12,7 @@ ghost use Rattle.spec.specs.Lower as lowering;
 ghost use Rattle.spec.specs.Lower.{lower_if_there, lower_part, lower_string, lower_path, lower_attr, lower_attrpath_opt, lower_field, lower_if_else, lower_select, lower_has_attr, lower_lambda, lower_let_in, lower_list, lower_bin_op, lower_attr_set, lower_unary_op, merge_bindings};
 ghost use Rattle.module.specs.Ids.{node_of, expr_of, pointer_of};
 ghost use Rattle.module.specs.Kinds.{kind_of};
+ghost use Rattle.module.specs.SyntaxKinds.{number_of_syntax};
 ghost use Rattle.layout.specs.Layout.{Long};
 ghost use Rattle.layout.specs.Nodes.{nodes_of};
 ghost use Rattle.layout.specs.Texts.{text_in};
@@ -27,14 +28,14 @@ ghost use Rattle.lower.specs.Reads.{attrs_from};
 use crate::leaves::{
     alloc_lone, attr_name, ident, literal, lower_name, missing_node, pair_form, uri,
 };
-use crate::reads::{children_of, first_entry, into_set, next_in, param_of};
-use intake::{kid, node_flag, node_kind, node_pointer, node_text};
-use keys::{AttrKind, attr_kind, get_str_literal, has_interpolation, name_kind_of_set, next_item};
+use crate::reads::{Children, Param, children_of, first_entry, into_set, next_in, param_of};
+use intake::{kid, kid_count, node_flag, node_pointer, node_text, syntax_kind};
+use keys::{AttrKind, attr_kind, get_str_literal, has_interpolation, name_kind_of_set};
 use merge::{
     add_dynamic, add_source, finish_nested, finish_set, get_or_create_nested_static, inherit_value,
     merge_static_value,
 };
-use module::{BindingValue, Expr, ExprId, Item, Literal, NameKind, NodeId, Pointer, TextId};
+use module::{BindingValue, Expr, ExprId, Item, Literal, NameKind, NodeId, Pointer, SyntaxKind, TextId};
 use open_sets::{SetId, cut, entry_count, open_set, set_count};
 use store::{alloc_expr, alloc_missing, push_item, waiting_count};
 
@@ -48,30 +49,29 @@ pub fn expr(store: &mut [u8], depth: u32, n: NodeId) -> ExprId
         return alloc_missing(store);
     }
     let d = depth - 1;
-    match node_kind(store, n) {
-        1 => pair(store, d, n, 1),
-        2 => cond(store, d, n),
-        3 => get(store, d, n),
-        4 => pair(store, d, n, 4),
-        5 => has(store, d, n),
-        6 => str(store, d, n),
-        7 => path(store, d, n),
-        8 => literal(store, n, 8),
-        9 => literal(store, n, 9),
-        10 => uri(store, n),
-        11 => lambda(store, d, n),
-        12 => let_in(store, d, n),
-        13 => list(store, d, n),
-        14 => binop(store, d, n),
-        15 => {
-            let place = kid(store, n, 0);
-            opt(store, d, place)
-        }
-        16 => set(store, d, n),
-        17 => unop(store, d, n),
-        18 => ident(store, n),
-        19 => pair(store, d, n, 19),
-        21 => {
+    let Some(kind) = syntax_kind(store, n) else {
+        return missing_node(store, n);
+    };
+    match kind {
+        SyntaxKind::Apply => pair(store, d, n, kind),
+        SyntaxKind::IfElse => cond(store, d, n),
+        SyntaxKind::Select => get(store, d, n),
+        SyntaxKind::With => pair(store, d, n, kind),
+        SyntaxKind::HasAttr => has(store, d, n),
+        SyntaxKind::Str => str(store, d, n),
+        SyntaxKind::Path => path(store, d, n),
+        SyntaxKind::Float => literal(store, n, kind),
+        SyntaxKind::Integer => literal(store, n, kind),
+        SyntaxKind::Uri => uri(store, n),
+        SyntaxKind::Lambda => lambda(store, d, n),
+        SyntaxKind::LetIn => let_in(store, d, n),
+        SyntaxKind::List => list(store, d, n),
+        SyntaxKind::BinOp => binop(store, d, n),
+        SyntaxKind::AttrSet => set(store, d, n),
+        SyntaxKind::UnaryOp => unop(store, d, n),
+        SyntaxKind::Ident => ident(store, n),
+        SyntaxKind::Assert => pair(store, d, n, kind),
+        SyntaxKind::Paren | SyntaxKind::Root => {
             let place = kid(store, n, 0);
             opt(store, d, place)
         }
@@ -97,22 +97,17 @@ fn there(store: &mut [u8], depth: u32, place: Option<NodeId>) -> Option<ExprId>
     requires { Long store.old }
     ensures { Lowering 0 (λ nodes. room.place nodes (node_of place)) nothing (λ nodes. lower_if_there nodes (lower_at depth nodes) (merge_at depth nodes) (node_of place)) store.old (expr_of result) store.new }
 {
-    match place {
-        Some(n) => Some(expr(store, depth, n)),
-        None => None,
-    }
+    let n = place?;
+    Some(expr(store, depth, n))
 }
 
 // Apply, With and Assert.
 #[cycle(exprs)]
-fn pair(store: &mut [u8], depth: u32, n: NodeId, kind: u32) -> ExprId
+fn pair(store: &mut [u8], depth: u32, n: NodeId, kind: SyntaxKind) -> ExprId
     requires { Long store.old }
-    ensures { Lowering 0 (below n.0) own_node (λ nodes. lowering.pair nodes (lower_at depth nodes) (merge_at depth nodes) (form_of kind) n.0) store.old result.0 store.new }
+    ensures { Lowering 0 (below n.0) own_node (λ nodes. lowering.pair nodes (lower_at depth nodes) (merge_at depth nodes) (form_of (number_of_syntax kind)) n.0) store.old result.0 store.new }
 {
-    let at = children_of(store, n);
-    let first = at.first;
-    let second = at.second;
-    let p = at.pointer;
+    let Children { first, second, pointer: p, .. } = children_of(store, n);
     let a = opt(store, depth, first);
     let b = opt(store, depth, second);
     alloc_lone(store, pair_form(kind, a, b), p)
@@ -124,11 +119,7 @@ fn cond(store: &mut [u8], depth: u32, n: NodeId) -> ExprId
     requires { Long store.old }
     ensures { Lowering 0 (below n.0) own_node (λ nodes. lower_if_else nodes (lower_at depth nodes) (merge_at depth nodes) n.0) store.old result.0 store.new }
 {
-    let at = children_of(store, n);
-    let first = at.first;
-    let second = at.second;
-    let third = at.third;
-    let p = at.pointer;
+    let Children { first, second, third, pointer: p } = children_of(store, n);
     let cond = opt(store, depth, first);
     let then_body = opt(store, depth, second);
     let else_body = opt(store, depth, third);
@@ -142,11 +133,7 @@ fn get(store: &mut [u8], depth: u32, n: NodeId) -> ExprId
     ensures { Lowering 0 (below n.0) own_node (λ nodes. lower_select nodes (lower_at depth nodes) (merge_at depth nodes) n.0) store.old result.0 store.new }
 {
     let base = waiting_count(store);
-    let at = children_of(store, n);
-    let first = at.first;
-    let second = at.second;
-    let third = at.third;
-    let p = at.pointer;
+    let Children { first, second, third, pointer: p } = children_of(store, n);
     let set = opt(store, depth, first);
     attrs(store, depth, second);
     let default_expr = there(store, depth, third);
@@ -160,10 +147,7 @@ fn has(store: &mut [u8], depth: u32, n: NodeId) -> ExprId
     ensures { Lowering 0 (below n.0) own_node (λ nodes. lower_has_attr nodes (lower_at depth nodes) (merge_at depth nodes) n.0) store.old result.0 store.new }
 {
     let base = waiting_count(store);
-    let at = children_of(store, n);
-    let first = at.first;
-    let second = at.second;
-    let p = at.pointer;
+    let Children { first, second, pointer: p, .. } = children_of(store, n);
     let set = opt(store, depth, first);
     attrs(store, depth, second);
     alloc_expr(store, Expr::HasAttr(set), base, p)
@@ -208,14 +192,9 @@ fn parts(store: &mut [u8], depth: u32, n: NodeId)
     requires { Long store.old }
     ensures { Collecting 0 (below n.0) nothing (map part_item) (λ nodes. each (lower_part nodes (lower_at depth nodes) (merge_at depth nodes)) (items nodes n.0)) store.old store.new }
 {
-    let mut i: u32 = 0;
-    loop {
-        match next_item(store, n, i) {
-            None => return,
-            Some((p, after)) => {
-                part(store, depth, p);
-                i = after;
-            }
+    for i in 0..kid_count(store, n) {
+        if let Some(p) = kid(store, n, i) {
+            part(store, depth, p);
         }
     }
 }
@@ -226,7 +205,7 @@ fn part(store: &mut [u8], depth: u32, n: NodeId)
     requires { Long store.old }
     ensures { Collecting 0 (λ nodes. sized nodes n.0) nothing (one part_item) (λ nodes. lower_part nodes (lower_at depth nodes) (merge_at depth nodes) n.0) store.old store.new }
 {
-    if node_kind(store, n) == 32 {
+    if syntax_kind(store, n) == Some(SyntaxKind::LiteralPart) {
         let t = node_text(store, n);
         push_item(store, Item::Text(t));
         return;
@@ -242,15 +221,13 @@ fn attrs(store: &mut [u8], depth: u32, place: Option<NodeId>)
     requires { Long store.old }
     ensures { Collecting 0 (λ nodes. room.place nodes (node_of place)) nothing (map child) (λ nodes. lower_attrpath_opt nodes (lower_at depth nodes) (merge_at depth nodes) (node_of place)) store.old store.new }
 {
-    let mut i: u32 = 0;
-    loop {
-        match next_in(store, place, i) {
-            None => return,
-            Some((a, after)) => {
-                let e = attr(store, depth, a);
-                push_item(store, Item::Child(e));
-                i = after;
-            }
+    let Some(n) = place else {
+        return;
+    };
+    for i in 0..kid_count(store, n) {
+        if let Some(a) = kid(store, n, i) {
+            let e = attr(store, depth, a);
+            push_item(store, Item::Child(e));
         }
     }
 }
@@ -261,15 +238,14 @@ fn attr(store: &mut [u8], depth: u32, n: NodeId) -> ExprId
     requires { Long store.old }
     ensures { Lowering 0 (below n.0) one_expr (λ nodes. lower_attr nodes (lower_at depth nodes) (merge_at depth nodes) n.0) store.old result.0 store.new }
 {
-    let kind = node_kind(store, n);
-    if kind == 24 {
-        let place = kid(store, n, 0);
-        return opt(store, depth, place);
+    match syntax_kind(store, n) {
+        Some(SyntaxKind::Dynamic) => {
+            let place = kid(store, n, 0);
+            opt(store, depth, place)
+        }
+        Some(SyntaxKind::Str) => str(store, depth, n),
+        _ => attr_name(store, n),
     }
-    if kind == 6 {
-        return str(store, depth, n);
-    }
-    attr_name(store, n)
 }
 
 // lower_lambda
@@ -279,15 +255,9 @@ fn lambda(store: &mut [u8], depth: u32, n: NodeId) -> ExprId
     ensures { Lowering 0 (below n.0) own_node (λ nodes. lower_lambda nodes (lower_at depth nodes) (merge_at depth nodes) n.0) store.old result.0 store.new }
 {
     let base = waiting_count(store);
-    let at = children_of(store, n);
-    let first = at.first;
-    let second = at.second;
-    let p = at.pointer;
-    let x = param_of(store, first);
-    let named = x.ident;
-    let owner = x.owner;
-    let pattern = x.pattern;
-    let name = lower_name(store, NameKind::Param, named);
+    let Children { first, second, pointer: p, .. } = children_of(store, n);
+    let Param { ident, owner, pattern } = param_of(store, first);
+    let name = lower_name(store, NameKind::Param, ident);
     fields(store, depth, owner);
     let body = opt(store, depth, second);
     alloc_expr(store, Expr::Lambda(name, pattern, body), base, p)
@@ -299,14 +269,12 @@ fn fields(store: &mut [u8], depth: u32, owner: Option<NodeId>)
     requires { Long store.old }
     ensures { Collecting 0 (λ nodes. sizes nodes (attrs_from nodes 1 (node_of owner))) nothing (map field_item) (λ nodes. each (lower_field nodes (lower_at depth nodes) (merge_at depth nodes)) (attrs_from nodes 1 (node_of owner))) store.old store.new }
 {
-    let mut i: u32 = 1;
-    loop {
-        match next_in(store, owner, i) {
-            None => return,
-            Some((f, after)) => {
-                field(store, depth, f);
-                i = after;
-            }
+    let Some(n) = owner else {
+        return;
+    };
+    for i in 1..kid_count(store, n) {
+        if let Some(f) = kid(store, n, i) {
+            field(store, depth, f);
         }
     }
 }
@@ -317,9 +285,7 @@ fn field(store: &mut [u8], depth: u32, n: NodeId)
     requires { Long store.old }
     ensures { Collecting 0 (λ nodes. sized nodes n.0) nothing (one field_item) (λ nodes. lower_field nodes (lower_at depth nodes) (merge_at depth nodes) n.0) store.old store.new }
 {
-    let at = children_of(store, n);
-    let first = at.first;
-    let second = at.second;
+    let Children { first, second, .. } = children_of(store, n);
     let x = lower_name(store, NameKind::PatField, first);
     let e = there(store, depth, second);
     push_item(store, Item::Field(x, e));
@@ -332,9 +298,7 @@ fn let_in(store: &mut [u8], depth: u32, n: NodeId) -> ExprId
     ensures { Lowering 0 (below n.0) own_node (λ nodes. lower_let_in nodes (lower_at depth nodes) (merge_at depth nodes) n.0) store.old result.0 store.new }
 {
     let base = waiting_count(store);
-    let at = children_of(store, n);
-    let first = at.first;
-    let p = at.pointer;
+    let Children { first, pointer: p, .. } = children_of(store, n);
     binds(store, depth, NameKind::LetIn, n);
     let body = opt(store, depth, first);
     alloc_expr(store, Expr::LetIn(body), base, p)
@@ -348,17 +312,13 @@ fn list(store: &mut [u8], depth: u32, n: NodeId) -> ExprId
 {
     let base = waiting_count(store);
     let p = node_pointer(store, n);
-    let mut i: u32 = 0;
-    loop {
-        match next_item(store, n, i) {
-            None => return alloc_expr(store, Expr::List, base, p),
-            Some((k, after)) => {
-                let e = expr(store, depth, k);
-                push_item(store, Item::Child(e));
-                i = after;
-            }
+    for i in 0..kid_count(store, n) {
+        if let Some(k) = kid(store, n, i) {
+            let e = expr(store, depth, k);
+            push_item(store, Item::Child(e));
         }
     }
+    alloc_expr(store, Expr::List, base, p)
 }
 
 // BinOp: "A flag-0 BinOp lowers its left side first."
@@ -367,10 +327,7 @@ fn binop(store: &mut [u8], depth: u32, n: NodeId) -> ExprId
     requires { Long store.old }
     ensures { Lowering 0 (below n.0) own_node (λ nodes. lower_bin_op nodes (lower_at depth nodes) (merge_at depth nodes) n.0) store.old result.0 store.new }
 {
-    let at = children_of(store, n);
-    let first = at.first;
-    let second = at.second;
-    let p = at.pointer;
+    let Children { first, second, pointer: p, .. } = children_of(store, n);
     let op = node_flag(store, n);
     let lhs = opt(store, depth, first);
     if op == 0 {
@@ -400,9 +357,7 @@ fn unop(store: &mut [u8], depth: u32, n: NodeId) -> ExprId
     requires { Long store.old }
     ensures { Lowering 0 (below n.0) own_node (λ nodes. lower_unary_op nodes (lower_at depth nodes) (merge_at depth nodes) n.0) store.old result.0 store.new }
 {
-    let at = children_of(store, n);
-    let first = at.first;
-    let p = at.pointer;
+    let Children { first, pointer: p, .. } = children_of(store, n);
     let op = node_flag(store, n);
     if op == 0 {
         return alloc_missing(store);
@@ -444,14 +399,9 @@ fn entries(store: &mut [u8], depth: u32, s: SetId, n: NodeId)
     requires { Long store.old }
     ensures { Lowering (suc s.0) (λ nodes. sizes nodes (merging.entries_of nodes (lower_at depth nodes) (merge_at depth nodes) n.0)) nothing (λ nodes. merge_entries nodes (lower_at depth nodes) (merge_at depth nodes) s.0 n.0) store.old tt store.new }
 {
-    let mut i = first_entry(store, n);
-    loop {
-        match next_item(store, n, i) {
-            None => return,
-            Some((e, after)) => {
-                entry(store, depth, s, e);
-                i = after;
-            }
+    for i in first_entry(store, n)..kid_count(store, n) {
+        if let Some(e) = kid(store, n, i) {
+            entry(store, depth, s, e);
         }
     }
 }
@@ -462,7 +412,7 @@ fn entry(store: &mut [u8], depth: u32, s: SetId, n: NodeId)
     requires { Long store.old }
     ensures { Lowering (suc s.0) (λ nodes. sized nodes n.0) nothing (λ nodes. merge_entry nodes (lower_at depth nodes) (merge_at depth nodes) s.0 n.0) store.old tt store.new }
 {
-    if node_kind(store, n) == 26 {
+    if syntax_kind(store, n) == Some(SyntaxKind::Inherit) {
         inherit(store, depth, s, n)
     } else {
         put(store, depth, s, n)
@@ -477,14 +427,9 @@ fn inherit(store: &mut [u8], depth: u32, s: SetId, n: NodeId)
 {
     let place = kid(store, n, 0);
     let from_set = src(store, depth, s, place);
-    let mut i: u32 = 1;
-    loop {
-        match next_item(store, n, i) {
-            None => return,
-            Some((a, after)) => {
-                heir(store, depth, s, from_set, a);
-                i = after;
-            }
+    for i in 1..kid_count(store, n) {
+        if let Some(a) = kid(store, n, i) {
+            heir(store, depth, s, from_set, a);
         }
     }
 }
@@ -495,15 +440,10 @@ fn src(store: &mut [u8], depth: u32, s: SetId, place: Option<NodeId>) -> Option<
     requires { Long store.old }
     ensures { Lowering (suc s.0) (λ nodes. room.place nodes (node_of place)) nothing (λ nodes. inherit_source nodes (lower_at depth nodes) (merge_at depth nodes) s.0 (node_of place)) store.old (expr_of result) store.new }
 {
-    match place {
-        Some(f) => {
-            let inner = kid(store, f, 0);
-            let e = opt(store, depth, inner);
-            add_source(store, s, e);
-            Some(e)
-        }
-        None => None,
-    }
+    let inner = kid(store, place?, 0);
+    let e = opt(store, depth, inner);
+    add_source(store, s, e);
+    Some(e)
 }
 
 // One inherited attribute. "A dynamic inherited one: a Missing key and its value."
@@ -528,9 +468,7 @@ fn put(store: &mut [u8], depth: u32, s: SetId, n: NodeId)
     requires { Long store.old }
     ensures { Lowering (suc s.0) (λ nodes. sized nodes n.0) nothing (λ nodes. merge_attrpath_val nodes (lower_at depth nodes) (merge_at depth nodes) s.0 n.0) store.old tt store.new }
 {
-    let at = children_of(store, n);
-    let first = at.first;
-    let second = at.second;
+    let Children { first, second, .. } = children_of(store, n);
     match next_in(store, first, 0) {
         None => push(store, depth, s, None, second),
         Some((a, after)) => nested(store, depth, s, first, a, after, second),

@@ -1,5 +1,5 @@
 // What is allocated without lowering anything below it (docs/RULES.md, "From nodes to expressions").
-ghost use Rattle.std.specs.Prelude.{◌≡◌, [], eqb};
+ghost use Rattle.std.specs.Prelude.{◌≡◌, [], Some, eqb};
 ghost use Rattle.spec.specs.Keys as keys;
 ghost use Rattle.spec.specs.Module as spec;
 ghost use Rattle.spec.specs.Steps.{when};
@@ -7,6 +7,7 @@ ghost use Rattle.spec.specs.State.{alloc_expr, alloc_missing};
 ghost use Rattle.spec.specs.Lower.{lower_name, lower_ident};
 ghost use Rattle.module.specs.Ids.{node_of, name_of, pointer_of};
 ghost use Rattle.module.specs.Kinds.{kind_of};
+ghost use Rattle.module.specs.SyntaxKinds.{number_of_syntax};
 ghost use Rattle.layout.specs.Layout.{Long};
 ghost use Rattle.layout.specs.Texts.{text_in};
 ghost use Rattle.rows.specs.Decoded.{expr_with, ValidExpr};
@@ -18,7 +19,7 @@ ghost use Rattle.lower.specs.Parts.{lower_at, merge_at, IsForm};
 
 use intake::{node_pointer, node_text};
 use keys::{literal_of, name_of_ident};
-use module::{Expr, ExprId, Literal, NameId, NameKind, NodeId, Pointer, TextId};
+use module::{Expr, ExprId, Literal, NameId, NameKind, NodeId, Pointer, SyntaxKind, TextId};
 use store::{alloc_expr, alloc_missing, alloc_name, waiting_count};
 
 // alloc_expr, for an expression without items.
@@ -31,16 +32,14 @@ pub fn alloc_lone(store: &mut [u8], e: Expr, p: Pointer) -> ExprId
 }
 
 // Apply, With or Assert.
-pub fn pair_form(kind: u32, a: ExprId, b: ExprId) -> Expr
-    ensures { IsForm kind a.0 b.0 result }
+pub fn pair_form(kind: SyntaxKind, a: ExprId, b: ExprId) -> Expr
+    ensures { IsForm (number_of_syntax kind) a.0 b.0 result }
 {
-    if kind == 1 {
-        return Expr::Apply(a, b);
+    match kind {
+        SyntaxKind::Apply => Expr::Apply(a, b),
+        SyntaxKind::With => Expr::With(a, b),
+        _ => Expr::Assert(a, b),
     }
-    if kind == 4 {
-        return Expr::With(a, b);
-    }
-    Expr::Assert(a, b)
 }
 
 // lower_name: an Ident without a name is named by the empty text.
@@ -48,23 +47,19 @@ pub fn lower_name(store: &mut [u8], kind: NameKind, place: Option<NodeId>) -> Op
     requires { Long store.old }
     ensures { Lowering 0 (λ nodes. sizes.place nodes (node_of place)) nothing (λ nodes. lower_name nodes (lower_at 0 nodes) (merge_at 0 nodes) (kind_of kind) (node_of place)) store.old (name_of result) store.new }
 {
-    match place {
-        Some(n) => {
-            let text = node_text(store, n);
-            let p = node_pointer(store, n);
-            Some(alloc_name(store, text, kind, p))
-        }
-        None => None,
-    }
+    let n = place?;
+    let text = node_text(store, n);
+    let p = node_pointer(store, n);
+    Some(alloc_name(store, text, kind, p))
 }
 
 // A Float or an Integer; Missing where the literal can't be read.
-pub fn literal(store: &mut [u8], n: NodeId, kind: u32) -> ExprId
+pub fn literal(store: &mut [u8], n: NodeId, kind: SyntaxKind) -> ExprId
     requires { Long store.old }
-    ensures { Lowering 0 (λ _. 0) one_expr (λ nodes. alloc_literal nodes n.0 (literal_held nodes kind n.0)) store.old result.0 store.new }
+    ensures { Lowering 0 (λ _. 0) one_expr (λ nodes. alloc_literal nodes n.0 (literal_held nodes (Some kind) n.0)) store.old result.0 store.new }
 {
     let p = node_pointer(store, n);
-    match literal_of(store, n, kind) {
+    match literal_of(store, n, Some(kind)) {
         Some(l) => alloc_lone(store, Expr::Literal(l), p),
         None => alloc_missing(store),
     }

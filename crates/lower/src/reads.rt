@@ -8,10 +8,10 @@ ghost use Rattle.spec.specs.Keys.{flag, kid_of};
 ghost use Rattle.module.specs.Ids.{node_of};
 ghost use Rattle.lower.specs.Reads.{HasChildren, HasParam, pattern_of, NextIn, FirstEntry, GoesInto};
 
-use intake::{kid, node_flag, node_kind, node_pointer};
+use intake::{kid, node_flag, node_pointer, syntax_kind};
 use keys::next_item;
 use merge::nested_at;
-use module::{NodeId, Pattern, Pointer, TextId};
+use module::{NodeId, Pattern, Pointer, SyntaxKind, TextId};
 use open_sets::SetId;
 
 // The counted places of a node, of which none has more than three, and its pointer.
@@ -49,10 +49,7 @@ fn kid_of(store: &[u8], place: Option<NodeId>) -> Option<NodeId>
     requires { Long store.now }
     ensures { node_of result ≡ kid_of (nodes_of store.now) 0 (node_of place) }
 {
-    match place {
-        Some(n) => kid(store, n, 0),
-        None => None,
-    }
+    kid(store, place?, 0)
 }
 
 fn pattern_kind(store: &[u8], n: NodeId) -> Pattern
@@ -60,9 +57,10 @@ fn pattern_kind(store: &[u8], n: NodeId) -> Pattern
     ensures { pattern_of result ≡ some (eqb (flag (nodes_of store.now) n.0) 1) }
 {
     if node_flag(store, n) == 1 {
-        return Pattern::Ellipsis;
+        Pattern::Ellipsis
+    } else {
+        Pattern::Closed
     }
-    Pattern::Closed
 }
 
 fn param_node(store: &[u8], n: NodeId) -> Param
@@ -70,7 +68,7 @@ fn param_node(store: &[u8], n: NodeId) -> Param
     ensures { HasParam (nodes_of store.now) (some n.0) result }
 {
     let first = kid(store, n, 0);
-    if node_kind(store, n) == 28 {
+    if syntax_kind(store, n) == Some(SyntaxKind::IdentParam) {
         return Param {
             ident: first,
             owner: None,
@@ -103,10 +101,7 @@ pub fn next_in(store: &[u8], place: Option<NodeId>, i: u32) -> Option<(NodeId, u
     requires { Long store.now }
     ensures { NextIn (nodes_of store.now) i (node_of place) result }
 {
-    match place {
-        Some(n) => next_item(store, n, i),
-        None => None,
-    }
+    next_item(store, place?, i)
 }
 
 // Where the entries begin: a LetIn has its body first.
@@ -114,25 +109,14 @@ pub fn first_entry(store: &[u8], n: NodeId) -> u32
     requires { Long store.now }
     ensures { FirstEntry (nodes_of store.now) n.0 result }
 {
-    if node_kind(store, n) == 12 {
-        return 1;
-    }
-    0
-}
-
-fn into_nested(store: &[u8], s: SetId, key: TextId, v: NodeId) -> Option<(SetId, NodeId)>
-    requires { Long store.now }
-    ensures { GoesInto store.now s.0 (text_in store.now key.0) (some v.0) result }
-{
-    if node_kind(store, v) != 16 {
-        return None;
-    }
-    match nested_at(store, s, key) {
-        Some(t) => Some((t, v)),
-        None => None,
+    if syntax_kind(store, n) == Some(SyntaxKind::LetIn) {
+        1
+    } else {
+        0
     }
 }
 
+// A set as the value of a key merges into the nested set that the key has.
 pub fn into_set(
     store: &[u8],
     s: SetId,
@@ -142,8 +126,10 @@ pub fn into_set(
     requires { Long store.now }
     ensures { GoesInto store.now s.0 (text_in store.now key.0) (node_of value) result }
 {
-    match value {
-        Some(v) => into_nested(store, s, key, v),
-        None => None,
+    let v = value?;
+    if syntax_kind(store, v) != Some(SyntaxKind::AttrSet) {
+        return None;
     }
+    let t = nested_at(store, s, key)?;
+    Some((t, v))
 }

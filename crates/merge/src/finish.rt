@@ -28,18 +28,10 @@ fn finish_value(
     requires { Long store.old }
     ensures { Finishing (value_load (load (entries_of store.old) bound) (maybe_set_of nested) (maybe_value_of value)) (finish_value (finish_to bound) (maybe_set_of nested) (maybe_value_of value)) store.old (binding_of result) store.new }
 {
-    match nested {
-        Some(t) => {
-            let e = finish_expr(store, bound, t);
-            BindingValue::Expr(e)
-        }
-        None => match value {
-            Some(v) => v,
-            None => {
-                let e = alloc_missing(store);
-                BindingValue::Expr(e)
-            }
-        },
+    match (nested, value) {
+        (Some(t), _) => BindingValue::Expr(finish_expr(store, bound, t)),
+        (None, Some(v)) => v,
+        (None, None) => BindingValue::Expr(alloc_missing(store)),
     }
 }
 
@@ -70,16 +62,9 @@ pub fn finish(store: &mut [u8], bound: u32, s: SetId)
     ensures { Listing (loads (entries_of store.old) bound s.0) binding_items (finish_with (finish_to bound) s.0) store.old store.new }
 {
     let mut j = first_of(store, s);
-    loop {
-        match entry_of(store, s, j) {
-            None => {
-                return;
-            }
-            Some(e) => {
-                finish_entry(store, bound, e);
-                j += 1;
-            }
-        }
+    while let Some(e) = entry_of(store, s, j) {
+        finish_entry(store, bound, e);
+        j += 1;
     }
 }
 

@@ -40,9 +40,8 @@ fn name_in(e: Entry) -> NameId
     ensures { (st : List ℕ) → result.0 ≡ definition.name_in (entry_with st e) }
 {
     match e {
-        Entry::Static(s, key, x, nested, value) => x,
-        Entry::Source(s, set) => NameId(0),
-        Entry::Dynamic(s, key, value) => NameId(0),
+        Entry::Static(_, _, x, _, _) => x,
+        Entry::Source(..) | Entry::Dynamic(..) => NameId(0),
     }
 }
 
@@ -50,9 +49,8 @@ fn nested_in(e: Entry) -> Option<SetId>
     ensures { (st : List ℕ) → maybe_set_of result ≡ definition.nested_in (entry_with st e) }
 {
     match e {
-        Entry::Static(s, key, x, nested, value) => nested,
-        Entry::Source(s, set) => None,
-        Entry::Dynamic(s, key, value) => None,
+        Entry::Static(_, _, _, nested, _) => nested,
+        Entry::Source(..) | Entry::Dynamic(..) => None,
     }
 }
 
@@ -61,10 +59,8 @@ pub fn nested_at(store: &[u8], s: SetId, key: TextId) -> Option<SetId>
     requires { Long store.now }
     ensures { Lowerable store.now → maybe_set_of result ≡ definition.nested_at (definition.find s.0 (text_in store.now key.0) (state_of store.now)) (state_of store.now) }
 {
-    match find(store, s, key) {
-        Some(i) => nested_in(entry_at(store, i)),
-        None => None,
-    }
+    let i = find(store, s, key)?;
+    nested_in(entry_at(store, i))
 }
 
 // A name for a key of the set.

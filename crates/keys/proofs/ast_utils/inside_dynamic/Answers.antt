@@ -1,16 +1,21 @@
 -- `keys::ast_utils::inside_dynamic` meets its contract.
+use Rattle.intake.proofs.KindLaws.{if_kind, if_other}
 use Rattle.keys.proofs.KeyLaws.{inside_none, inside_str, inside_other}
 use Rattle.keys.specs.AstUtils.{attr_kind_of}
 use Rattle.module.specs.Ids.{node_of}
+use Rattle.module.specs.declared.syntax_kind.SyntaxKind.TheVariants as kind
+use Rattle.module.specs.SyntaxKinds.{number_of_syntax}
+use mathlib.Core.Path.{refl}
 use Rattle.keys.proofs.ast_utils.inside_dynamic.Goals as goal
 
-pub returns-then-node_kind-eq-STR : goal.returns-then-node_kind-eq-STR
-returns-then-node_kind-eq-STR c = inside_str _ _ _ c.in-Some.is _ c.node_kind.ensures c.if-node_kind-eq-STR.true c.str_key.ensures
+pub returns-in-Some : goal.returns-in-Some
+unfolding number_of_syntax
+returns-in-Some c = inside_str _ _ _ c.in-Some.is _ refl (if_kind c.syntax_kind.ensures kind.Str c.eq.ensures c.if-eq.true) c.str_key.ensures
 
-pub returns-in-None : goal.returns-in-None
-unfolding attr_kind_of node_of
-returns-in-None c = inside_none _ _ c.in-None.is
+pub returns-in_default : goal.returns-in_default
+unfolding attr_kind_of node_of number_of_syntax
+returns-in_default c = inside_other _ _ _ c.in-Some.is _ refl (if_other c.syntax_kind.ensures kind.Str c.eq.ensures c.if-eq.false)
 
-pub returns-else-node_kind-eq-STR : goal.returns-else-node_kind-eq-STR
-unfolding attr_kind_of node_of
-returns-else-node_kind-eq-STR c = inside_other _ _ _ c.in-Some.is _ c.node_kind.ensures c.if-node_kind-eq-STR.false
+pub returns-in_default-2 : goal.returns-in_default-2
+unfolding attr_kind_of
+returns-in_default-2 c = inside_none _ _ c.in_default.is

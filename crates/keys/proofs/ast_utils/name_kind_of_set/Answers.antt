@@ -7,6 +7,6 @@ pub returns-then-node_flag-eq1 : goal.returns-then-node_flag-eq1
 unfolding kind_of
 returns-then-node_flag-eq1 c = set_rec _ _ _ c.node_flag.ensures c.if-node_flag-eq1.true
 
-pub returns : goal.returns
+pub returns-else-node_flag-eq1 : goal.returns-else-node_flag-eq1
 unfolding kind_of
-returns c = set_plain _ _ _ c.node_flag.ensures c.if-node_flag-eq1.false
+returns-else-node_flag-eq1 c = set_plain _ _ _ c.node_flag.ensures c.if-node_flag-eq1.false

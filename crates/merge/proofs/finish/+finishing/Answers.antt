@@ -17,9 +17,9 @@ finish-loop-e-init t c = going_none _ _ _ _
 pub finish-entry_of-requires : goal.finish-entry_of-requires
 finish-entry_of-requires t c = omega (arith, c.requires, c.loop-e.invariant.wrote.size)
 
-pub finish-returns-in-None : goal.finish-returns-in-None
+pub finish-returns : goal.finish-returns
 unfolding NextInRun
-finish-returns-in-None t c = going_done c.loop-e.invariant (rw c.in-None.is at c.entry_of.ensures) c.first_of-j.ensures.0
+finish-returns t c = going_done c.loop-e.invariant (rw c.in_default.is at c.entry_of.ensures) c.first_of-j.ensures.0
 
 pub finish-finish_entry-requires : goal.finish-finish_entry-requires
 finish-finish_entry-requires t c = (omega (arith, c.decreases), omega (arith, c.requires, c.loop-e.invariant.wrote.size))
@@ -67,14 +67,14 @@ finish_expr-returns t c = set_finished _ _ _ _ (omega arith) c.waiting_count-bas
 
 -- ---- finish_value
 
-pub finish_value-returns-in-Some : goal.finish_value-returns-in-Some
+pub finish_value-returns-in-Some-default : goal.finish_value-returns-in-Some-default
 unfolding maybe_set_of binding_of
-finish_value-returns-in-Some t c = rw c.in-Some.is (nested_wins _ _ _ _ c.finish_expr-e.ensures)
+finish_value-returns-in-Some-default t c = rw c.in-Some-default.is-0 (nested_wins _ _ _ _ c.finish_expr.ensures)
 
-pub finish_value-returns-in-Some-value : goal.finish_value-returns-in-Some-value
+pub finish_value-returns-in-None-Some : goal.finish_value-returns-in-None-Some
 unfolding maybe_set_of maybe_value_of
-finish_value-returns-in-Some-value t c = rw (c.in-None.is, c.in-Some-value.is) (value_stays _ _ _ _)
+finish_value-returns-in-None-Some t c = rw (c.in-None-Some.is-0, c.in-None-Some.is-1) (value_stays _ _ _ _)
 
-pub finish_value-returns-in-None-value : goal.finish_value-returns-in-None-value
+pub finish_value-returns-in-None-None : goal.finish_value-returns-in-None-None
 unfolding maybe_set_of maybe_value_of binding_of
-finish_value-returns-in-None-value t c = rw (c.in-None.is, c.in-None-value.is) (value_missing _ _ c.alloc_missing-e.ensures)
+finish_value-returns-in-None-None t c = rw (c.in-None-None.is-0, c.in-None-None.is-1) (value_missing _ _ c.alloc_missing.ensures)
