@@ -1,6 +1,7 @@
 -- The four ways of a load: the reply or the store is too short, the sheet is refused, or the store is filled. Assumes
 -- nothing.
-use mathlib.Core.Path.{◌≡◌, refl, sym, ◌∙◌}
+use Rattle.std.specs.Prelude as rust
+use mathlib.Core.Path.{◌≡◌, refl, sym, ap, ◌∙◌}
 use mathlib.Core.Bool.{or-true}
 use mathlib.Core.List.{List, []}
 use Prim.Native.Nat.{ℕ, ◌%◌, ◌≤◌, ◌<◌}
@@ -12,16 +13,19 @@ use Rattle.spec.specs.Sheet.{Judged}
 use Rattle.spec.specs.Tree.{judge}
 use Rattle.spec.specs.Calls.{refusal, reply_bytes, loading}
 use Rattle.spec.proofs.reading.Refusals.{refused_place}
-use Rattle.sheet.specs.Sheets.{answer}
+use Rattle.refusals.specs.Numbers.{number_of}
+use Rattle.sheet.specs.Sheets.{answer, numbered}
 use Rattle.sheet.specs.declared.position.Position.{Position}
-use Rattle.sheet.specs.declared.sheets.SheetRead.{SheetRead}
-use Rattle.sheet.specs.declared.sheets.SheetRead.TheVariants.{Accepted, Refused}
+use Rattle.sheet.specs.declared.faults.SheetRefused.{SheetRefused}
 use Rattle.layout.specs.Layout.{Long, store_bytes}
 use Rattle.soundness.specs.Sound.{condition_of}
 use Rattle.replies.specs.Replies.{returned, reply_after, load_outcome, Told, ToldMoved}
 use Rattle.replies.proofs.ReplyLaws.{reply_short}
 use Rattle.load.specs.Loads.{judged_in, Leaves}
 use Rattle.load.specs.Filled.{Fills}
+
+same_error : {A B : Type 0} {x y : B} → ◌≡◌ {A = rust.Result A B} (rust.Err x) (rust.Err y) → x ≡ y
+same_error e = cc
 
 -- the three clauses of a load
 abbrev pub Promise : List ℕ → List ℕ → List ℕ → ℕ → List ℕ → List ℕ → Type 0
@@ -55,23 +59,23 @@ module _ (sheet s p : List ℕ) where
   store_too_short h told = promised s (Judged.refused 21 0) (short_store h) told refl
 
   -- 1 to 7 or 31 to 33, or none
-  module _ (long : Long s) (room : reply_bytes ≤ length p) (a : SheetRead) (e : a ≡ answer sheet (judge sheet)) where
-    pub sheet_refused : (number place : ℕ) {r : ℕ} {q : List ℕ} → a ≡ Refused number place → Told (refusal number (place % 4294967296)) p r q → Promise sheet s p r s q
+  module _ (long : Long s) (room : reply_bytes ≤ length p) (a : rust.Result (ℕ × Position) SheetRefused) (e : numbered a ≡ answer sheet (judge sheet)) where
+    pub sheet_refused : (x : SheetRefused) (number : ℕ) {r : ℕ} {q : List ℕ} → a ≡ rust.Err x → number ≡ number_of x.why → Told (refusal number (x.place % 4294967296)) p r q → Promise sheet s p r s q
     unfolding answer load_outcome Leaves
-    sheet_refused number place {r} {q} h told = by_judged (judge sheet) refl (sym h ∙ e)
+    sheet_refused x number {r} {q} h same told = by_judged (judge sheet) refl (sym (ap numbered h) ∙ e)
       where
-        by_judged : (j : Judged) → judge sheet ≡ j → Refused number place ≡ answer sheet j → Promise sheet s p r s q
+        by_judged : (j : Judged) → judge sheet ≡ j → rust.Err (number_of x.why, x.place) ≡ answer sheet j → Promise sheet s p r s q
         by_judged (Judged.accepted ns) i k = let z : ◌≡◌ {A = ℕ} 0 1 = cc in absurd (omega arith)
         by_judged (Judged.refused n v) i k =
-            let number_is : number ≡ n = cc in
-            let place_is : place ≡ v = cc in
-            let whole : place % 4294967296 ≡ v = omega (arith, place_is, refused_place sheet n v i) in
+            let number_is : number ≡ n = same ∙ ap (λ (k : ℕ × ℕ). k.0) (same_error k) in
+            let place_is : x.place ≡ v = ap (λ (k : ℕ × ℕ). k.1) (same_error k) in
+            let whole : x.place % 4294967296 ≡ v = omega (arith, place_is, refused_place sheet n v i) in
             promised s (Judged.refused n v) (by_sheet long room ∙ i) (rw (number_is, whole) at told) refl
 
-    pub sheet_accepted : (count : ℕ) (first : Position) {r : ℕ} {t q : List ℕ} → a ≡ Accepted count first → Fills sheet s t → ToldMoved 0 p r q → Promise sheet s p r t q
+    pub sheet_accepted : (count : ℕ) (first : Position) {r : ℕ} {t q : List ℕ} → a ≡ rust.Ok (count, first) → Fills sheet s t → ToldMoved 0 p r q → Promise sheet s p r t q
     unfolding answer load_outcome Leaves
-    sheet_accepted count first {r} {t} {q} h fills told = by_judged (judge sheet) refl (sym h ∙ e)
+    sheet_accepted count first {r} {t} {q} h fills told = by_judged (judge sheet) refl (sym (ap numbered h) ∙ e)
       where
-        by_judged : (j : Judged) → judge sheet ≡ j → Accepted count first ≡ answer sheet j → Promise sheet s p r t q
+        by_judged : (j : Judged) → judge sheet ≡ j → rust.Ok (count, first) ≡ answer sheet j → Promise sheet s p r t q
         by_judged (Judged.accepted ns) i k = promised t (Judged.accepted ns) (by_sheet long room ∙ i) (told.says [] refl) (fills.does ns i)
         by_judged (Judged.refused n v) i k = let z : ◌≡◌ {A = ℕ} 0 1 = cc in absurd (omega arith)

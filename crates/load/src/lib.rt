@@ -12,7 +12,6 @@ use layout::tables::STORE_BYTES;
 use lower::lower;
 use nameres::keep_module;
 use replies::{REPLY_BYTES, accept, refuse};
-use sheet::SheetRead;
 use store::clear;
 
 // The nodes of an accepted sheet, then what is made of them. All counts are 0 first, so that nothing of an earlier load
@@ -42,8 +41,11 @@ pub fn load(sheet: &[u8], store: &mut [u8], reply: &mut [u8]) -> u32
         return refuse(reply, 21, 0);
     }
     match tree::judge(sheet) {
-        SheetRead::Refused(number, place) => refuse(reply, number, (place % 4294967296) as u32),
-        SheetRead::Accepted(_, _) => {
+        Err(refused) => {
+            let place = (refused.place % 4294967296) as u32;
+            refuse(reply, refused.why.number(), place)
+        }
+        Ok(_) => {
             fill(sheet, store);
             accept(reply, 0)
         }

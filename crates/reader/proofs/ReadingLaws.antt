@@ -1,5 +1,6 @@
 -- Laws of reading on: where the next line starts, by what the line reader says of the rest of a sheet, and that it
 -- starts inside of the sheet. Assumes nothing.
+use Rattle.std.specs.Prelude as rust
 use mathlib.Core.Path.{◌≡◌, refl, ap, ◌∙◌}
 use mathlib.Core.List.{List, []}
 use mathlib.Core.Option.{Option, none, some}
@@ -12,8 +13,6 @@ use Rattle.spec.specs.Sheet.{malformed, Got, got, bad, after, up_to_end}
 use Rattle.sheet.specs.Keyed.{line_of}
 use Rattle.sheet.specs.Lines.{got_line}
 use Rattle.sheet.specs.declared.position.Span.{Span}
-use Rattle.sheet.specs.declared.lines.LineRead.{LineRead}
-use Rattle.sheet.specs.declared.lines.LineRead.TheVariants as read
 use Rattle.sheet.proofs.LineLaws.{line_inside}
 use Rattle.reader.specs.Reading.{after_line}
 
@@ -40,18 +39,18 @@ module _ (s : List ℕ) (at : ℕ) where
   unfolding after_line up_to_end
   after_beyond h = let k : length s ≤ at = omega arith in rw (drop_of_length-le s)
 
-  module _ (first : ℕ) (f : first ≡ 0) (r : LineRead) (e : got_line rest first r ≡ line_of [] rest first) where
+  module _ (first : ℕ) (f : first ≡ 0) (r : rust.Option Span) (e : got_line rest first r ≡ line_of [] rest first) where
     said : got_line rest 0 r ≡ line_of [] rest 0
     said = rw f at e
 
-    pub after_value : (v : Span) → r ≡ read.Value v → (next : ℕ) → next ≡ v.end + 1 → at + next ≡ after_line s at
+    pub after_value : (v : Span) → r ≡ rust.Some v → (next : ℕ) → next ≡ v.end + 1 → at + next ≡ after_line s at
     after_value v q next g =
-        let k : got_line rest 0 (read.Value v) ≡ line_of [] rest 0 = rw q at said in
+        let k : got_line rest 0 (rust.Some v) ≡ line_of [] rest 0 = rw q at said in
         ap (λ (n : ℕ). at + n) (g ∙ ap place_of k) ∙ after_is
 
-    pub after_endless : r ≡ read.Malformed → at ≡ after_line s at
+    pub after_endless : r ≡ rust.None → at ≡ after_line s at
     after_endless q =
-        let k : got_line rest 0 read.Malformed ≡ line_of [] rest 0 = rw q at said in
+        let k : got_line rest 0 rust.None ≡ line_of [] rest 0 = rw q at said in
         let z : at ≡ at + 0 = omega arith in
         z ∙ (ap (λ (n : ℕ). at + n) (ap place_of k) ∙ after_is)
 

@@ -9,7 +9,7 @@
 ghost use Rattle.std.specs.Prelude.{◌≡◌, ◌≤◌, length, take};
 ghost use Rattle.reader.specs.Reading.{after_line};
 
-use sheet::{LineRead, Position};
+use sheet::Position;
 
 #[derive(Clone, Copy)]
 pub struct Reader<'a> {
@@ -33,11 +33,8 @@ pub fn line_after(s: &[u8], at: usize) -> usize
     let rest = &s[at..];
     let first = Position::first();
     match first.line(rest, b"") {
-        LineRead::Value(v) => {
-            let next = v.after();
-            at + next.at
-        }
-        LineRead::Malformed => at,
+        Some(v) => at + v.after().at,
+        None => at,
     }
 }
 

@@ -4,7 +4,6 @@ use Rattle.std.specs.Prelude as rust
 use Rattle.std.specs.Prelude.{position}
 use Rattle.std.specs.Option as rust_option
 use Rattle.std.specs.List.{position_or_len}
-use Rattle.std.specs.Borrow.{Bor}
 use Rattle.std.proofs.lemmas.List.Sums.{prefix_len-le-length}
 use mathlib.Core.Path.{◌≡◌, refl, sym, ap, ◌∙◌}
 use mathlib.Core.Bool.{Bool, true, false, ◌&&◌, cond, not, and-true, and-false, and_assoc}
@@ -15,11 +14,11 @@ use mathlib.Mathlib.Data.Bool.Basic.{and_elim_right}
 use Prim.Native.Nat.{ℕ, suc, ◌+◌, ◌-◌, ◌≤◌, ◌<◌, min}
 use native.Mathlib.Omega.{arith}
 use native.Mathlib.Decide.{dec_lt}
-use lib.ListN.{length, get_or, take, drop, length-drop, drop_of_length-le}
+use lib.ListN.{length, take, drop, length-drop, drop_of_length-le}
 use lib.Seq.{take_all, drop-drop}
 use lib.Dec.{eqb, ltb}
 use lib.Pointwise.{pointwise}
-use borrow.Author.Tests.{eq-eqb, ne_eqb, lt-ltb, le-ltb, ltb-true, ltb-false, false-eqb}
+use borrow.Author.Tests.{lt-ltb, le-ltb, ltb-true, ltb-false, false-eqb}
 use Rattle.spec.specs.Basics.{Text, NodeId, maybe}
 use Rattle.spec.specs.Sheet.{kid, cut_before, cut_at_commas, all_kids, kid_list, all_below, decimal}
 use Rattle.sheet.specs.Decimals.{capped, got_decimal}

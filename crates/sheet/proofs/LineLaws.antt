@@ -17,13 +17,11 @@ use lib.Seq.{drop-drop, take_all, length-take-le}
 use lib.Dec.{eqb, ltb}
 use borrow.Author.Tests.{ltb-true, ltb-false}
 use Rattle.words.specs.Runs.{run}
-use Rattle.words.proofs.RunLaws.{length_run}
 use Rattle.spec.specs.Basics.{Text, bytes, maybe}
 use Rattle.spec.specs.Sheet.{Fault, malformed, Got, got, bad, next, after, up_to_end, line, field, number}
 use Rattle.spec.proofs.reading.Places.{after_rest, end_inside}
 use Rattle.sheet.specs.Keyed.{line_of, field_of, number_of}
-use Rattle.sheet.specs.Lines.{rest_of, got_line, ValueInside}
-use Rattle.sheet.specs.declared.position.Span.{Span}
+use Rattle.sheet.specs.Lines.{rest_of}
 
 -- ---- the key as bytes
 pub number_is : (key : String) (why : Fault) (lo hi : ℕ) (s : List ℕ) (at : ℕ) → number_of (bytes key) why lo hi s at ≡ number key why lo hi s at

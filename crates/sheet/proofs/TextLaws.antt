@@ -15,16 +15,15 @@ use native.Mathlib.Decide.{dec_lt}
 use lib.ListN.{length, get_or, take, drop, set, length-set, length-drop, length-append}
 use lib.Seq.{length-take-le}
 use lib.Dec.{eqb, leb, ltb}
-use borrow.Author.Tests.{le-leb, lt-leb, leb-true, leb-false, ltb-true, ltb-false, le-ltb, eq-eqb, ne_eqb, eqb-true, eqb-false}
+use borrow.Author.Tests.{le-leb, leb-true, ltb-true, ltb-false, le-ltb, eq-eqb, ne_eqb, eqb-true, eqb-false}
 use Rattle.words.specs.Runs.{run, splice}
 use Rattle.words.proofs.RunLaws.{splice_after}
 use Rattle.spec.specs.Basics.{Text, bytes, maybe}
 use Rattle.spec.specs.Kinds.{TextRule, no_text, any_text, digits, float, named}
-use Rattle.spec.specs.Sheet.{is_digit, all_digits, hex_digit, hex, bits_from, is_float, is_empty, text_fits, malformed, Got, got, bad, after, up_to_end, wrong_text}
+use Rattle.spec.specs.Sheet.{is_digit, all_digits, hex_digit, hex, bits_from, is_float, is_empty, text_fits, malformed, got, bad, after, up_to_end, wrong_text}
 use Rattle.sheet.specs.Keyed.{field_of}
 use Rattle.sheet.specs.Lines.{rest_of}
 use Rattle.sheet.specs.Verdicts.{Formed}
-use Rattle.sheet.specs.declared.position.Span.{Span}
 use Rattle.sheet.specs.Texts.{is_there, is_hex, digit_of, byte_at, decoded, four_more}
 use Rattle.sheet.proofs.DecimalLaws.{digit_is}
 use Rattle.sheet.proofs.LineLaws.{line_at, line_other, rest_is, field_other, field_malformed, field_right, slice_from, first_some, first_none, end_found, end_missing}

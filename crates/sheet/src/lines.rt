@@ -17,7 +17,7 @@ fn line_end(rest: &[u8]) -> Option<usize>
 
 impl Position {
     // What follows the key, where the key is here.
-    pub fn after_key<'a>(self, s: &'a [u8], key: &[u8]) -> Option<&'a [u8]>
+    pub(crate) fn after_key<'a>(self, s: &'a [u8], key: &[u8]) -> Option<&'a [u8]>
         requires { self.at ≤ length s.now }
         ensures { rest_of result ≡ after key.now (drop self.at s.now) }
     {

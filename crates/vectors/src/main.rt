@@ -18,35 +18,24 @@ use layout::tables::STORE_BYTES;
 use load::load;
 use printing::{print_answer, print_list, print_load, print_module, print_refusal, reply_word};
 use reader::after_first_line;
-use sheet::{Fault, NumberRead, Position};
+use sheet::{Fault, Position};
 use std::io::{self, Read, Write};
 
 // The list may have so many bytes.
 const LIST_BYTES: usize = 524288;
 
-// A number, and the place after its line.
-#[derive(Clone, Copy)]
-enum Number {
-    Is(u32, usize),
-    Missing,
-}
-
-// The line at a place of the list, which has to have the key and a number from 0 to `most`.
-fn number_at(list: &[u8], at: usize, key: &[u8], most: u32) -> Number {
+// The number of the line at a place of the list, and the place after it; the line has to have the key and a number from
+// 0 to `most`.
+fn number_at(list: &[u8], at: usize, key: &[u8], most: u32) -> Option<(u32, usize)> {
     if list.len() < at {
-        return Number::Missing;
+        return None;
     }
-    let here = Position::first();
-    match here.number(&list[at..], key, Fault::WrongCount, 0, most) {
-        NumberRead::Bad(_, _) => Number::Missing,
-        NumberRead::Value(value, next) => {
-            let taken = next.at;
-            if list.len() - at < taken {
-                return Number::Missing;
-            }
-            Number::Is(value, at + taken)
-        }
+    let line = Position::first().number(&list[at..], key, Fault::WrongCount, 0, most);
+    let (value, next) = line.ok()?;
+    if list.len() - at < next.at {
+        return None;
     }
+    Some((value, at + next.at))
 }
 
 // Where the list does not go on as it should, the rest of it is left out.
@@ -173,10 +162,10 @@ fn run_change<W: Write>(
     bytes: u32,
     store: &mut [u8; STORE_BYTES],
 ) -> io::Result<usize> {
-    let Number::Is(lent, at) = number_at(list, at, b"moved=", 16384) else {
+    let Some((lent, at)) = number_at(list, at, b"moved=", 16384) else {
         return broken(out, list);
     };
-    let Number::Is(told, at) = number_at(list, at, b"reply=", 32) else {
+    let Some((told, at)) = number_at(list, at, b"reply=", 32) else {
         return broken(out, list);
     };
     let bytes = bytes as usize;
@@ -201,7 +190,7 @@ fn run_asking<W: Write>(
     lent: u32,
     store: &[u8],
 ) -> io::Result<usize> {
-    let Number::Is(told, at) = number_at(list, at, b"reply=", 32) else {
+    let Some((told, at)) = number_at(list, at, b"reply=", 32) else {
         return broken(out, list);
     };
     match kind {
@@ -218,13 +207,13 @@ fn run_call<W: Write>(
     at: usize,
     store: &mut [u8; STORE_BYTES],
 ) -> io::Result<usize> {
-    let Number::Is(kind, at) = number_at(list, at, b"call=", 3) else {
+    let Some((kind, at)) = number_at(list, at, b"call=", 3) else {
         return broken(out, list);
     };
-    let Number::Is(number, at) = number_at(list, at, b"number=", 4294967295) else {
+    let Some((number, at)) = number_at(list, at, b"number=", 4294967295) else {
         return broken(out, list);
     };
-    let Number::Is(lent, at) = number_at(list, at, b"lent=", 16384) else {
+    let Some((lent, at)) = number_at(list, at, b"lent=", 16384) else {
         return broken(out, list);
     };
     match kind {
@@ -268,7 +257,7 @@ fn run_sheet<W: Write>(
     list: &[u8],
     store: &mut [u8; STORE_BYTES],
 ) -> io::Result<usize> {
-    let Number::Is(bytes, start) = number_at(list, 0, b"sheet=", 65536) else {
+    let Some((bytes, start)) = number_at(list, 0, b"sheet=", 65536) else {
         return broken(out, list);
     };
     let bytes = bytes as usize;
@@ -280,7 +269,7 @@ fn run_sheet<W: Write>(
     }
     let end = start + bytes;
     load_and_show(out, &list[start..end], store)?;
-    let Number::Is(count, first) = number_at(list, end, b"calls=", 4096) else {
+    let Some((count, first)) = number_at(list, end, b"calls=", 4096) else {
         return broken(out, list);
     };
     run_calls(out, list, first, count, store)

@@ -1,4 +1,4 @@
-use Rattle.std.proofs.Common.{◌∙◌, arith}
+use Rattle.std.proofs.Common.{◌∙◌}
 use Rattle.sheet.proofs.DecimalLaws.{no_text, zero_first, one_digit, other_first}
 use Rattle.sheet.proofs.decimals.decimal.Goals as goal
 use Rattle.sheet.proofs.decimals.decimal.Goals.{else-first-eq48-via-then-first-eq48+else-not-is_empty, else-first-eq48-via-else-first-eq48}

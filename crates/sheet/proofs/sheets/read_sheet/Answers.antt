@@ -1,7 +1,7 @@
 use Rattle.std.proofs.Common.{arith, ◌∙◌, ap, refl}
 use Rattle.std.proofs.lemmas.Result.{err_from_is_err_and}
 use Rattle.spec.specs.Basics.{bytes}
-use Rattle.spec.specs.Sheet.{wrong_count, fault_number}
+use Rattle.spec.specs.Sheet.{wrong_count}
 use Rattle.sheet.specs.Faults.{fault_of}
 use Rattle.sheet.specs.Sheets.{numbered}
 use Rattle.sheet.proofs.NodeLaws.{number_inside}

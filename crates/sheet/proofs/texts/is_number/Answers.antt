@@ -1,4 +1,4 @@
-use Rattle.std.proofs.Common.{◌∙◌, ap, sym, not}
+use Rattle.std.proofs.Common.{◌∙◌, ap, not}
 use Rattle.sheet.proofs.TextLaws.{number_none, number_some}
 use Rattle.sheet.proofs.texts.is_number.Goals as goal
 

@@ -1,5 +1,4 @@
-use Rattle.std.proofs.Common.{arith, ◌∙◌, ap, sym}
-use Rattle.sheet.specs.Numbers.{got_number}
+use Rattle.std.proofs.Common.{arith}
 use Rattle.sheet.proofs.Exits.{same_error, nothing}
 use Rattle.sheet.proofs.NumberLaws.{number_other, number_malformed, number_low, number_high, number_right}
 use Rattle.sheet.proofs.position.Position.number.Goals as goal
