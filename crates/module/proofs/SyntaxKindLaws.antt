@@ -127,6 +127,10 @@ syntax_same j k e =
     let h : Some j ≡ Some k = sym (syntax_back j) ∙ (ap syntax_of_number e ∙ syntax_back k) in
     cc
 
+-- two kinds that are not the same have two numbers
+pub syntax_unlike : (j k : SyntaxKind) → (j ≡ k → ⊥) → number_of_syntax j ≡ number_of_syntax k → ⊥
+syntax_unlike j k h e = h (syntax_same j k e)
+
 -- a kind's number is 1 to 33
 in_list : (xs : List (Option SyntaxKind)) (n : ℕ) (k : SyntaxKind) → get_or xs n None ≡ Some k → n < length xs
 in_list [] n k e = cc

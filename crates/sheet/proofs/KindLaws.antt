@@ -1,9 +1,12 @@
 -- The rules of the kinds by one match each: a test that is computed over the whole table, and a law that turns it into
 -- the rule at a number. Assumes nothing.
-use Rattle.std.specs.Prelude.{if◌then◌else◌}
+use Rattle.std.specs.Prelude.{if◌then◌else◌, Option, Some, None}
+use Rattle.module.specs.SyntaxKinds.{number_of_syntax, syntax_of_number}
+use Rattle.module.specs.declared.syntax_kind.SyntaxKind.{SyntaxKind}
+use Rattle.module.specs.declared.syntax_kind.SyntaxKind.TheVariants as kind
+use Rattle.module.proofs.SyntaxKindLaws.{syntax_unlike, syntax_told, syntax_gap}
 use mathlib.Core.Path.{◌≡◌, refl, sym, ap, subst, ◌∙◌}
 use mathlib.Core.Bool.{Bool, true, ◌&&◌, ◌||◌}
-use mathlib.Core.Logic.{◌⊎◌, ⊎_elim}
 use mathlib.Core.List.{List, [], ◌∷◌}
 use mathlib.Core.Option.{none}
 use Prim.Native.Nat.{ℕ, zero, suc, ◌+◌, ◌<◌, ◌≤◌}
@@ -54,7 +57,7 @@ unfolding kinds kind_of
 outside k h = get_or-eq_default kinds (places [] none) h
 
 -- ---- the flags
-pub flags_other : (k : ℕ) → (k ≡ 8 → ⊥) → (k ≡ 16 → ⊥) → (k ≡ 18 → ⊥) → (k ≡ 29 → ⊥) → (k ≡ 14 → ⊥) → (k ≡ 17 → ⊥) → 0 ≡ (kind_of k).flags
+flags_other : (k : ℕ) → (k ≡ 8 → ⊥) → (k ≡ 16 → ⊥) → (k ≡ 18 → ⊥) → (k ≡ 29 → ⊥) → (k ≡ 14 → ⊥) → (k ≡ 17 → ⊥) → 0 ≡ (kind_of k).flags
 flags_other k a b c d e f = go (dec_lt k 34)
   where
     go : Dec (k < 34) → 0 ≡ (kind_of k).flags
@@ -63,41 +66,7 @@ flags_other k a b c d e f = go (dec_lt k 34)
         sym (t ∙ rw (ne_eqb k 8 a, ne_eqb k 16 b, ne_eqb k 18 c, ne_eqb k 29 d, ne_eqb k 14 e, ne_eqb k 17 f))
     go (no n) = rw (outside k (omega (arith, n)))
 
-pub flags_at : (k m : ℕ) → k ≡ m → (kind_of m).flags ≡ (kind_of k).flags
-flags_at k m e = ap (λ (n : ℕ). (kind_of n).flags) (sym e)
-
-pub flags_one : (k : ℕ) → (k ≡ 8) ⊎ ((k ≡ 16) ⊎ ((k ≡ 18) ⊎ (k ≡ 29))) → 1 ≡ (kind_of k).flags
-unfolding kind_of kinds
-flags_one k u = ⊎_elim (flags_at k 8) (⊎_elim (flags_at k 16) (⊎_elim (flags_at k 18) (flags_at k 29))) u
-
-pub flags_fifteen : (k : ℕ) → k ≡ 14 → 15 ≡ (kind_of k).flags
-unfolding kind_of kinds
-flags_fifteen k = flags_at k 14
-
-pub flags_two : (k : ℕ) → k ≡ 17 → 2 ≡ (kind_of k).flags
-unfolding kind_of kinds
-flags_two k = flags_at k 17
-
 -- ---- the texts
-pub text_at_lem : (k m : ℕ) → k ≡ m → (kind_of m).text ≡ (kind_of k).text
-text_at_lem k m e = ap (λ (n : ℕ). (kind_of n).text) (sym e)
-
-pub text_any : (k : ℕ) → (k ≡ 7) ⊎ (k ≡ 32) → any_text ≡ (kind_of k).text
-unfolding kind_of kinds
-text_any k u = ⊎_elim (text_at_lem k 7) (text_at_lem k 32) u
-
-pub text_float : (k : ℕ) → k ≡ 8 → float ≡ (kind_of k).text
-unfolding kind_of kinds
-text_float k = text_at_lem k 8
-
-pub text_digits : (k : ℕ) → k ≡ 9 → digits ≡ (kind_of k).text
-unfolding kind_of kinds
-text_digits k = text_at_lem k 9
-
-pub text_named : (k : ℕ) → k ≡ 18 → named ≡ (kind_of k).text
-unfolding kind_of kinds
-text_named k = text_at_lem k 18
-
 none_is : (t : TextRule) → rule_number t ≡ 0 → no_text ≡ t
 none_is no_text e = refl
 none_is any_text e = absurd (omega (arith, e))
@@ -105,7 +74,7 @@ none_is digits e = absurd (omega (arith, e))
 none_is float e = absurd (omega (arith, e))
 none_is named e = absurd (omega (arith, e))
 
-pub text_other : (k : ℕ) → (k ≡ 7 → ⊥) → (k ≡ 32 → ⊥) → (k ≡ 8 → ⊥) → (k ≡ 9 → ⊥) → (k ≡ 18 → ⊥) → no_text ≡ (kind_of k).text
+text_other : (k : ℕ) → (k ≡ 7 → ⊥) → (k ≡ 32 → ⊥) → (k ≡ 8 → ⊥) → (k ≡ 9 → ⊥) → (k ≡ 18 → ⊥) → no_text ≡ (kind_of k).text
 text_other k a b c d e = go (dec_lt k 34)
   where
     go : Dec (k < 34) → no_text ≡ (kind_of k).text
@@ -113,3 +82,37 @@ text_other k a b c d e = go (dec_lt k 34)
         let t = eqb→eq (rule_number (kind_of k).text) (text_rule k) (and_yes (eqb (kind_of k).flags (flag_rule k)) (eqb (rule_number (kind_of k).text) (text_rule k)) (inside k h)).1 in
         none_is (kind_of k).text (t ∙ rw (ne_eqb k 7 a, ne_eqb k 32 b, ne_eqb k 8 c, ne_eqb k 9 d, ne_eqb k 18 e))
     go (no n) = rw (outside k (omega (arith, n)))
+
+-- ---- by the kind
+pub flags_bare : (k : SyntaxKind) → (k ≡ kind.Float → ⊥) → (k ≡ kind.AttrSet → ⊥) → (k ≡ kind.Ident → ⊥) → (k ≡ kind.Pattern → ⊥)
+    → (k ≡ kind.BinOp → ⊥) → (k ≡ kind.UnaryOp → ⊥) → 0 ≡ (kind_of (number_of_syntax k)).flags
+unfolding number_of_syntax
+flags_bare k a b c d e f =
+    flags_other (number_of_syntax k) (syntax_unlike k kind.Float a) (syntax_unlike k kind.AttrSet b) (syntax_unlike k kind.Ident c)
+    (syntax_unlike k kind.Pattern d) (syntax_unlike k kind.BinOp e) (syntax_unlike k kind.UnaryOp f)
+
+pub text_bare : (k : SyntaxKind) → (k ≡ kind.Path → ⊥) → (k ≡ kind.LiteralPart → ⊥) → (k ≡ kind.Float → ⊥) → (k ≡ kind.Integer → ⊥)
+    → (k ≡ kind.Ident → ⊥) → no_text ≡ (kind_of (number_of_syntax k)).text
+unfolding number_of_syntax
+text_bare k a b c d e =
+    text_other (number_of_syntax k) (syntax_unlike k kind.Path a) (syntax_unlike k kind.LiteralPart b) (syntax_unlike k kind.Float c)
+    (syntax_unlike k kind.Integer d) (syntax_unlike k kind.Ident e)
+
+-- ---- by a number
+module _ (n : ℕ) (o : Option SyntaxKind) (h : o ≡ syntax_of_number n) where
+  pub kind_told : (k : SyntaxKind) → o ≡ Some k → kind_of (number_of_syntax k) ≡ kind_of n
+  kind_told k e = ap kind_of (syntax_told n k (sym h ∙ e))
+
+  no_kind : o ≡ None → kind_of n ≡ places [] none
+  unfolding kind_of kinds
+  no_kind e = go n (syntax_gap n (sym h ∙ e))
+    where
+      go : (n : ℕ) → (0 < n → 33 < n) → get_or kinds n (places [] none) ≡ places [] none
+      go zero g = refl
+      go (suc n) g = get_or-eq_default kinds (places [] none) {n = suc n} (omega (arith, g))
+
+  pub no_flags : o ≡ None → 0 ≡ (kind_of n).flags
+  no_flags e = rw (no_kind e) refl
+
+  pub no_rule : o ≡ None → no_text ≡ (kind_of n).text
+  no_rule e = rw (no_kind e) refl

@@ -2,7 +2,10 @@
 // without flag and text.
 ghost use Rattle.std.specs.Prelude.{◌≡◌};
 ghost use Rattle.spec.specs.Kinds.{kind_of};
+ghost use Rattle.module.specs.SyntaxKinds.{number_of_syntax};
 ghost use Rattle.sheet.specs.Rules.{rule_of};
+
+use module::SyntaxKind;
 
 // What a text may be; `Float` and `Named` where the flag is 1, else such a text is empty.
 #[derive(Clone, Copy)]
@@ -15,25 +18,46 @@ pub enum TextRule {
 }
 
 // The highest flag of a kind.
+#[tactic(auto, unfolding(spec::specs::Kinds::kind_of, spec::specs::Kinds::kinds, module::specs::SyntaxKinds::number_of_syntax))]
+fn flags_of(kind: SyntaxKind) -> u32
+    ensures { result ≡ (kind_of (number_of_syntax kind)).flags }
+{
+    match kind {
+        SyntaxKind::Float | SyntaxKind::AttrSet | SyntaxKind::Ident | SyntaxKind::Pattern => 1,
+        SyntaxKind::BinOp => 15,
+        SyntaxKind::UnaryOp => 2,
+        _ => 0,
+    }
+}
+
+#[tactic(auto, unfolding(spec::specs::Kinds::kind_of, spec::specs::Kinds::kinds, module::specs::SyntaxKinds::number_of_syntax))]
+fn text_rule_of(kind: SyntaxKind) -> TextRule
+    ensures { rule_of result ≡ (kind_of (number_of_syntax kind)).text }
+{
+    match kind {
+        SyntaxKind::Path | SyntaxKind::LiteralPart => TextRule::AnyText,
+        SyntaxKind::Float => TextRule::Float,
+        SyntaxKind::Integer => TextRule::Digits,
+        SyntaxKind::Ident => TextRule::Named,
+        _ => TextRule::NoText,
+    }
+}
+
+// The same by the number of a kind.
 pub fn flags(kind: u32) -> u32
     ensures { result ≡ (kind_of kind).flags }
 {
-    match kind {
-        8 | 16 | 18 | 29 => 1,
-        14 => 15,
-        17 => 2,
-        _ => 0,
+    match SyntaxKind::of(kind) {
+        Some(kind) => flags_of(kind),
+        None => 0,
     }
 }
 
 pub fn text_rule(kind: u32) -> TextRule
     ensures { rule_of result ≡ (kind_of kind).text }
 {
-    match kind {
-        7 | 32 => TextRule::AnyText,
-        8 => TextRule::Float,
-        9 => TextRule::Digits,
-        18 => TextRule::Named,
-        _ => TextRule::NoText,
+    match SyntaxKind::of(kind) {
+        Some(kind) => text_rule_of(kind),
+        None => TextRule::NoText,
     }
 }

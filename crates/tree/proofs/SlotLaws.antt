@@ -13,7 +13,7 @@ use Rattle.spec.specs.Kinds.{takes}
 use Rattle.module.specs.SyntaxKinds.{number_of_syntax, syntax_of_number}
 use Rattle.module.specs.declared.syntax_kind.SyntaxKind.{SyntaxKind}
 use Rattle.module.specs.declared.syntax_kind.SyntaxKind.TheVariants as kind
-use Rattle.module.proofs.SyntaxKindLaws.{syntax_same, syntax_within, syntax_gap, syntax_told}
+use Rattle.module.proofs.SyntaxKindLaws.{syntax_within, syntax_gap, syntax_told}
 use Rattle.tree.specs.Slots.{slot_of}
 use Rattle.tree.specs.contracts.slots.Slot.{the_type}
 use Rattle.tree.specs.declared.slots.Slot.{Slot}
@@ -105,10 +105,6 @@ expression_alone k h From b e = e ∙ rw (ne_eqb (number_of_syntax k) 27 (λ e. 
 expression_alone k h Ident b e = e ∙ rw (ne_eqb (number_of_syntax k) 18 h.1.1) refl
 expression_alone k h Bind b e = e ∙ rw (ne_eqb (number_of_syntax k) 30 (λ e. omega arith)) refl
 expression_alone k h PatternEntry b e = e ∙ rw (ne_eqb (number_of_syntax k) 31 (λ e. omega arith)) refl
-
--- two kinds that are not the same have two numbers
-pub unlike : (j k : SyntaxKind) → (j ≡ k → ⊥) → number_of_syntax j ≡ number_of_syntax k → ⊥
-unlike j k h e = h (syntax_same j k e)
 
 -- no slot takes a number that is no kind
 beyond : (x : Slot) (k : ℕ) → (0 < k → 33 < k) → false ≡ takes (slot_of x) k

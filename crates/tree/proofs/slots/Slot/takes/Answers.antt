@@ -2,10 +2,10 @@
 use Rattle.spec.specs.Kinds.{takes}
 use Rattle.module.specs.SyntaxKinds.{number_of_syntax}
 use Rattle.module.specs.declared.syntax_kind.SyntaxKind.TheVariants as kind
-use Rattle.module.proofs.SyntaxKindLaws.{syntax_within}
+use Rattle.module.proofs.SyntaxKindLaws.{syntax_unlike, syntax_within}
 use Rattle.tree.specs.Slots.{slot_of}
 use Rattle.tree.specs.declared.slots.Slot.TheVariants.{Path, Attribute, Entry, Part, Parameter, From, Bind, PatternEntry}
-use Rattle.tree.proofs.SlotLaws.{taken_alone, no_string, no_name, expression_alone, unlike}
+use Rattle.tree.proofs.SlotLaws.{taken_alone, no_string, no_name, expression_alone}
 use mathlib.Core.Logic.{inl, inr}
 use native.Mathlib.Omega.{arith}
 use Rattle.tree.proofs.slots.Slot.takes.Goals as goal
@@ -37,19 +37,19 @@ returns-in_default c =
       omega (
         arith,
         w,
-        unlike _ kind.Attrpath c.in_default.not-Attrpath,
-        unlike _ kind.Dynamic c.in_default.not-Dynamic,
-        unlike _ kind.AttrpathValue c.in_default.not-AttrpathValue,
-        unlike _ kind.Inherit c.in_default.not-Inherit,
-        unlike _ kind.InheritFrom c.in_default.not-InheritFrom,
-        unlike _ kind.IdentParam c.in_default.not-IdentParam,
-        unlike _ kind.Pattern c.in_default.not-Pattern,
-        unlike _ kind.PatBind c.in_default.not-PatBind,
-        unlike _ kind.PatEntry c.in_default.not-PatEntry,
-        unlike _ kind.LiteralPart c.in_default.not-LiteralPart,
-        unlike _ kind.Interpolation c.in_default.not-Interpolation,
+        syntax_unlike _ kind.Attrpath c.in_default.not-Attrpath,
+        syntax_unlike _ kind.Dynamic c.in_default.not-Dynamic,
+        syntax_unlike _ kind.AttrpathValue c.in_default.not-AttrpathValue,
+        syntax_unlike _ kind.Inherit c.in_default.not-Inherit,
+        syntax_unlike _ kind.InheritFrom c.in_default.not-InheritFrom,
+        syntax_unlike _ kind.IdentParam c.in_default.not-IdentParam,
+        syntax_unlike _ kind.Pattern c.in_default.not-Pattern,
+        syntax_unlike _ kind.PatBind c.in_default.not-PatBind,
+        syntax_unlike _ kind.PatEntry c.in_default.not-PatEntry,
+        syntax_unlike _ kind.LiteralPart c.in_default.not-LiteralPart,
+        syntax_unlike _ kind.Interpolation c.in_default.not-Interpolation,
       ),
-      (unlike _ kind.Str c.in_default.not-Str, unlike _ kind.Ident c.in_default.not-Ident),
+      (syntax_unlike _ kind.Str c.in_default.not-Str, syntax_unlike _ kind.Ident c.in_default.not-Ident),
     )
     _ _ c.eq-in_default.ensures
 
