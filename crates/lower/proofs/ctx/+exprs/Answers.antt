@@ -14,7 +14,6 @@ use Rattle.lower.specs.Reads.{NextIn}
 use Rattle.module.specs.Literals.{Valid}
 use Rattle.rows.specs.Decoded.{ValidExpr}
 use borrow.Author.Rules.{rules}
-use borrow.Author.Tests.{eq-eqb}
 use mathlib.Core.Path.{◌∙◌, refl, ap}
 use native.Mathlib.Omega.{arith}
 use Rattle.intake.proofs.KindLaws.{of_kind, if_kind, if_other}
