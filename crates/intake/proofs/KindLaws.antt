@@ -2,7 +2,7 @@
 use mathlib.Core.Path.{◌≡◌, sym, ap, ◌∙◌}
 use mathlib.Core.Bool.{Bool, true, false, not}
 use Prim.Native.Nat.{ℕ}
-use denote.Enum.Bare.{sameb, same_true, same_false, differs_true, differs_false}
+use denote.Enum.Bare.{sameb, same_true, same_false}
 use Rattle.std.specs.Prelude.{Option, Some, None}
 use Rattle.std.specs.Option.{option_eq}
 use Rattle.module.specs.SyntaxKinds.{number_of_syntax, syntax_of_number}

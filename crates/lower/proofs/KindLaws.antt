@@ -1,13 +1,13 @@
--- Lowering a node, by the number of its kind: what each arm of the match gives. Assumes nothing.
+-- Lowering a node, by its kind: what each arm of the match gives. Assumes nothing.
 use mathlib.Core.Path.{◌≡◌, refl, sym, ap, subst, ◌∙◌}
-use mathlib.Core.Bool.{true, false}
-use mathlib.Core.List.{List, [], ◌∷◌}
+use mathlib.Core.Bool.{false}
+use mathlib.Core.List.{List}
 use mathlib.Core.Option.{some}
 use Prim.Native.Nat.{ℕ, suc, ◌-◌, ◌≤◌}
 use native.Mathlib.Omega.{arith}
+use mathlib.Core.Logic.{◌⊎◌, inl, inr}
 use lib.Dec.{eqb}
 use borrow.Author.Tests.{eq-eqb, ne_eqb}
-use Rattle.words.proofs.Tests.{NoneOf, some_key, no_key}
 use Rattle.spec.specs.Basics.{NodeId, ExprId}
 use Rattle.spec.specs.Sheet.{Node}
 use Rattle.spec.specs.Keys.{kind, kid, pointer}
@@ -30,6 +30,13 @@ use Rattle.lower.specs.Parts.{lower_at, merge_at, LowersNode, form_of}
 use Rattle.lower.proofs.SizeLaws.{own_and_below, heft_whole, heft_str, heft_place, kid_below}
 use Rattle.lower.proofs.ExprLaws.{Opt}
 use Rattle.module.specs.declared.ids.NodeId as rust_node_id
+use Rattle.module.specs.SyntaxKinds.{number_of_syntax, syntax_of_number}
+use Rattle.module.specs.declared.syntax_kind.SyntaxKind.{SyntaxKind}
+use Rattle.module.specs.declared.syntax_kind.SyntaxKind.TheVariants as code_kind
+use Rattle.module.proofs.SyntaxKindLaws.{syntax_same}
+use Rattle.intake.proofs.KindLaws.{of_kind, of_other}
+use Rattle.keys.specs.Literals.{literal_held, alloc_literal}
+use Rattle.lower.proofs.LeafLaws.{float_lowers, integer_lowers}
 use Rattle.std.specs.Prelude as rust
 
 -- ---- where no level is left
@@ -63,147 +70,197 @@ module _ (d k n : ℕ) {s t : List ℕ} {r : ℕ} (e : k ≡ kind (nodes_of s) n
       }
 
 -- ---- the arm that takes the rest
--- the numbers of the other arms, the last arm first
-abbrev pub arm_kinds : List (List ℕ)
-arm_kinds = (21 ∷ []) ∷ (19 ∷ []) ∷ (18 ∷ []) ∷ (17 ∷ []) ∷ (16 ∷ []) ∷ (15 ∷ []) ∷ (14 ∷ []) ∷ (13 ∷ []) ∷ (12 ∷ []) ∷ (11 ∷ []) ∷ (10 ∷ []) ∷ (9 ∷ []) ∷ (8 ∷ []) ∷ (7 ∷ []) ∷ (6 ∷ []) ∷ (5 ∷ []) ∷ (4 ∷ []) ∷ (3 ∷ []) ∷ (2 ∷ []) ∷ (1 ∷ []) ∷ []
+-- a kind that has no other arm
+abbrev pub Rest : SyntaxKind → Type 0
+Rest k =
+    (k ≡ code_kind.Apply → ⊥)
+    × (k ≡ code_kind.IfElse → ⊥)
+    × (k ≡ code_kind.Select → ⊥)
+    × (k ≡ code_kind.With → ⊥)
+    × (k ≡ code_kind.HasAttr → ⊥)
+    × (k ≡ code_kind.Str → ⊥)
+    × (k ≡ code_kind.Path → ⊥)
+    × (k ≡ code_kind.Float → ⊥)
+    × (k ≡ code_kind.Integer → ⊥)
+    × (k ≡ code_kind.Uri → ⊥)
+    × (k ≡ code_kind.Lambda → ⊥)
+    × (k ≡ code_kind.LetIn → ⊥)
+    × (k ≡ code_kind.List → ⊥)
+    × (k ≡ code_kind.BinOp → ⊥)
+    × (k ≡ code_kind.Paren → ⊥)
+    × (k ≡ code_kind.AttrSet → ⊥)
+    × (k ≡ code_kind.UnaryOp → ⊥)
+    × (k ≡ code_kind.Ident → ⊥)
+    × (k ≡ code_kind.Assert → ⊥)
+    × (k ≡ code_kind.Root → ⊥)
 
-module _ (k : ℕ) (o : NoneOf arm_kinds k) where
-  other : (c : ℕ) → some_key arm_kinds c ≡ true → k ≡ c → ⊥
-  other c y q = let z : true ≡ false = sym y ∙ (ap (some_key arm_kinds) (sym q) ∙ no_key arm_kinds k o) in let one : ◌≡◌ {A = ℕ} 0 1 = cc in omega arith
+rest_missing : (k : SyntaxKind) → Rest k → (nodes : List Node) (lower : NodeId → Low ExprId) (merge : SetId → NodeId → Low (Unit {0})) (n : NodeId)
+    → alloc_expr missing (pointer nodes n) ≡ lower_as nodes lower merge (number_of_syntax k) n
+unfolding lower_as when number_of_syntax
+rest_missing code_kind.Apply h nodes lower merge n = absurd (h.0 refl)
+rest_missing code_kind.IfElse h nodes lower merge n = absurd (h.1 refl)
+rest_missing code_kind.Select h nodes lower merge n = absurd (h.2 refl)
+rest_missing code_kind.With h nodes lower merge n = absurd (h.3 refl)
+rest_missing code_kind.HasAttr h nodes lower merge n = absurd (h.4 refl)
+rest_missing code_kind.Str h nodes lower merge n = absurd (h.5 refl)
+rest_missing code_kind.Path h nodes lower merge n = absurd (h.6 refl)
+rest_missing code_kind.Float h nodes lower merge n = absurd (h.7 refl)
+rest_missing code_kind.Integer h nodes lower merge n = absurd (h.8 refl)
+rest_missing code_kind.Uri h nodes lower merge n = absurd (h.9 refl)
+rest_missing code_kind.Lambda h nodes lower merge n = absurd (h.10 refl)
+rest_missing code_kind.LetIn h nodes lower merge n = absurd (h.11 refl)
+rest_missing code_kind.List h nodes lower merge n = absurd (h.12 refl)
+rest_missing code_kind.BinOp h nodes lower merge n = absurd (h.13 refl)
+rest_missing code_kind.Paren h nodes lower merge n = absurd (h.14 refl)
+rest_missing code_kind.AttrSet h nodes lower merge n = absurd (h.15 refl)
+rest_missing code_kind.UnaryOp h nodes lower merge n = absurd (h.16 refl)
+rest_missing code_kind.Ident h nodes lower merge n = absurd (h.17 refl)
+rest_missing code_kind.Assert h nodes lower merge n = absurd (h.18 refl)
+rest_missing code_kind.Root h nodes lower merge n = absurd (h.19 refl)
+rest_missing _ h nodes lower merge n = refl
 
-  no : (c : ℕ) → some_key arm_kinds c ≡ true → eqb k c ≡ false
-  no c y = ne_eqb k c (other c y)
-
-  rest_missing : (nodes : List Node) (lower : NodeId → Low ExprId) (merge : SetId → NodeId → Low (Unit {0})) (n : NodeId) → alloc_expr missing (pointer nodes n) ≡ lower_as nodes lower merge k n
-  unfolding lower_as when
-  rest_missing nodes lower merge n =
-      rw (
-        no 1 refl,
-        no 2 refl,
-        no 3 refl,
-        no 4 refl,
-        no 5 refl,
-        no 6 refl,
-        no 7 refl,
-        no 8 refl,
-        no 9 refl,
-        no 10 refl,
-        no 11 refl,
-        no 12 refl,
-        no 13 refl,
-        no 14 refl,
-        no 15 refl,
-        no 16 refl,
-        no 17 refl,
-        no 18 refl,
-        no 19 refl,
-        no 21 refl,
-      )
+-- a number that is no kind's
+none_missing : (k : ℕ) → rust.None ≡ syntax_of_number k → (nodes : List Node) (lower : NodeId → Low ExprId) (merge : SetId → NodeId → Low (Unit {0})) (n : NodeId)
+    → alloc_expr missing (pointer nodes n) ≡ lower_as nodes lower merge k n
+unfolding lower_as when number_of_syntax
+none_missing k e nodes lower merge n =
+    let no : (c : SyntaxKind) → eqb k (number_of_syntax c) ≡ false = λ c. ne_eqb k (number_of_syntax c) (of_other e c (λ q. cc)) in
+    rw (
+      no code_kind.Apply,
+      no code_kind.IfElse,
+      no code_kind.Select,
+      no code_kind.With,
+      no code_kind.HasAttr,
+      no code_kind.Str,
+      no code_kind.Path,
+      no code_kind.Float,
+      no code_kind.Integer,
+      no code_kind.Uri,
+      no code_kind.Lambda,
+      no code_kind.LetIn,
+      no code_kind.List,
+      no code_kind.BinOp,
+      no code_kind.Paren,
+      no code_kind.AttrSet,
+      no code_kind.UnaryOp,
+      no code_kind.Ident,
+      no code_kind.Assert,
+      no code_kind.Root,
+    )
 
 -- as the code counts the levels
 one_less : (depth n : ℕ) {s t : List ℕ} {r : ℕ} → (depth ≡ 0 → ⊥) → LowersNode (suc (depth - 1)) n s r t → LowersNode depth n s r t
 one_less depth n {s} {t} {r} o x = let q : suc (depth - 1) ≡ depth = omega arith in subst (λ z. LowersNode z n s r t) q x
 
-module _ (depth n k : ℕ) {s t : List ℕ} {r : ℕ} (deep : depth ≡ 0 → ⊥) (e : k ≡ kind (nodes_of s) n) where
-  -- an arm of the match
-  arm : (c : ℕ) → k ≡ c → (c ≡ 6 → ⊥) → Whole (depth - 1) c n s r t → LowersNode depth n s r t
-  arm c q o x = one_less depth n deep (own_pays (depth - 1) k n e (rw q o) (by_kind (depth - 1) k n e (rw q x)))
-
-  -- ---- kinds that have a function of their own
-  pub apply_arm : k ≡ 1 → Lowering 0 (below n) own_node (λ nodes. lowering.pair nodes (lower_at (depth - 1) nodes) (merge_at (depth - 1) nodes) (form_of 1) n) s r t → LowersNode depth n s r t
-  unfolding lower_as when form_of
-  apply_arm q x = arm 1 q (λ z. omega arith) x
-
-  pub with_arm : k ≡ 4 → Lowering 0 (below n) own_node (λ nodes. lowering.pair nodes (lower_at (depth - 1) nodes) (merge_at (depth - 1) nodes) (form_of 4) n) s r t → LowersNode depth n s r t
-  unfolding lower_as when form_of
-  with_arm q x = arm 4 q (λ z. omega arith) x
-
-  pub assert_arm : k ≡ 19 → Lowering 0 (below n) own_node (λ nodes. lowering.pair nodes (lower_at (depth - 1) nodes) (merge_at (depth - 1) nodes) (form_of 19) n) s r t → LowersNode depth n s r t
-  unfolding lower_as when form_of
-  assert_arm q x = arm 19 q (λ z. omega arith) x
-
-  pub cond_arm : k ≡ 2 → Lowering 0 (below n) own_node (λ nodes. lower_if_else nodes (lower_at (depth - 1) nodes) (merge_at (depth - 1) nodes) n) s r t → LowersNode depth n s r t
-  unfolding lower_as when
-  cond_arm q x = arm 2 q (λ z. omega arith) x
-
-  pub select_arm : k ≡ 3 → Lowering 0 (below n) own_node (λ nodes. lower_select nodes (lower_at (depth - 1) nodes) (merge_at (depth - 1) nodes) n) s r t → LowersNode depth n s r t
-  unfolding lower_as when
-  select_arm q x = arm 3 q (λ z. omega arith) x
-
-  pub has_arm : k ≡ 5 → Lowering 0 (below n) own_node (λ nodes. lower_has_attr nodes (lower_at (depth - 1) nodes) (merge_at (depth - 1) nodes) n) s r t → LowersNode depth n s r t
-  unfolding lower_as when
-  has_arm q x = arm 5 q (λ z. omega arith) x
-
-  pub path_arm : k ≡ 7 → Lowering 0 (below n) own_node (λ nodes. lower_path nodes (lower_at (depth - 1) nodes) (merge_at (depth - 1) nodes) n) s r t → LowersNode depth n s r t
-  unfolding lower_as when
-  path_arm q x = arm 7 q (λ z. omega arith) x
-
-  pub lambda_arm : k ≡ 11 → Lowering 0 (below n) own_node (λ nodes. lower_lambda nodes (lower_at (depth - 1) nodes) (merge_at (depth - 1) nodes) n) s r t → LowersNode depth n s r t
-  unfolding lower_as when
-  lambda_arm q x = arm 11 q (λ z. omega arith) x
-
-  pub let_arm : k ≡ 12 → Lowering 0 (below n) own_node (λ nodes. lower_let_in nodes (lower_at (depth - 1) nodes) (merge_at (depth - 1) nodes) n) s r t → LowersNode depth n s r t
-  unfolding lower_as when
-  let_arm q x = arm 12 q (λ z. omega arith) x
-
-  pub list_arm : k ≡ 13 → Lowering 0 (below n) own_node (λ nodes. lower_list nodes (lower_at (depth - 1) nodes) (merge_at (depth - 1) nodes) n) s r t → LowersNode depth n s r t
-  unfolding lower_as when
-  list_arm q x = arm 13 q (λ z. omega arith) x
-
-  pub binop_arm : k ≡ 14 → Lowering 0 (below n) own_node (λ nodes. lower_bin_op nodes (lower_at (depth - 1) nodes) (merge_at (depth - 1) nodes) n) s r t → LowersNode depth n s r t
-  unfolding lower_as when
-  binop_arm q x = arm 14 q (λ z. omega arith) x
-
-  pub set_arm : k ≡ 16 → Lowering 0 (below n) own_node (λ nodes. lower_attr_set nodes (lower_at (depth - 1) nodes) (merge_at (depth - 1) nodes) n) s r t → LowersNode depth n s r t
-  unfolding lower_as when
-  set_arm q x = arm 16 q (λ z. omega arith) x
-
-  pub unop_arm : k ≡ 17 → Lowering 0 (below n) own_node (λ nodes. lower_unary_op nodes (lower_at (depth - 1) nodes) (merge_at (depth - 1) nodes) n) s r t → LowersNode depth n s r t
-  unfolding lower_as when
-  unop_arm q x = arm 17 q (λ z. omega arith) x
-
-  pub string_arm : k ≡ 6 → Lowering 0 (below n) one_expr (λ nodes. lower_string nodes (lower_at (depth - 1) nodes) (merge_at (depth - 1) nodes) n) s r t → LowersNode depth n s r t
-  unfolding lower_as when
-  string_arm q x = one_less depth n deep (str_lowers (depth - 1) k n e q (rw q x))
-
+-- A node of a kind that no other arm takes, or of none.
+module _ (depth n : ℕ) {s t : List ℕ} {r : ℕ} (deep : depth ≡ 0 → ⊥) where
   -- ---- what has nothing below it
   own_room : {p : List Node → Low ExprId} → Lowering 0 (λ _. 0) one_expr p s r t → Lowering 0 (below n) own_node p s r t
   unfolding covers price one_expr own_node
   own_room x = all_lower (fits 0 (λ w. omega arith) refl (x.at _ _))
 
-  pub float_arm : k ≡ 8 → Lowering 0 (λ _. 0) one_expr (λ nodes. lower_float nodes (lower_at (depth - 1) nodes) (merge_at (depth - 1) nodes) n) s r t → LowersNode depth n s r t
-  unfolding lower_as when
-  float_arm q x = arm 8 q (λ z. omega arith) (own_room x)
+  missing_lowers : (k : ℕ) → k ≡ kind (nodes_of s) n → (k ≡ 6 → ⊥)
+      → ((nodes : List Node) (lower : NodeId → Low ExprId) (merge : SetId → NodeId → Low (Unit {0})) → alloc_expr missing (pointer nodes n) ≡ lower_as nodes lower merge k n)
+      → Lowering 0 (λ _. 0) one_expr (λ nodes. alloc_expr missing (pointer nodes n)) s r t → LowersNode depth n s r t
+  missing_lowers k e o m x =
+      let all : Whole (depth - 1) k n s r t = all_lower (rw (← m (nodes_of s) (lower_at (depth - 1) (nodes_of s)) (merge_at (depth - 1) (nodes_of s))) ((own_room x).at _ _)) in
+      one_less depth n deep (own_pays (depth - 1) k n e o (by_kind (depth - 1) k n e all))
 
-  pub integer_arm : k ≡ 9 → Lowering 0 (λ _. 0) one_expr (λ nodes. lower_integer nodes (lower_at (depth - 1) nodes) (merge_at (depth - 1) nodes) n) s r t → LowersNode depth n s r t
-  unfolding lower_as when
-  integer_arm q x = arm 9 q (λ z. omega arith) (own_room x)
+  module _ {m : rust.Option SyntaxKind} (e : m ≡ syntax_of_number (kind (nodes_of s) n)) where
+    pub none_arm : m ≡ rust.None → Lowering 0 (λ _. 0) one_expr (λ nodes. alloc_expr missing (pointer nodes n)) s r t → LowersNode depth n s r t
+    unfolding number_of_syntax
+    none_arm q x =
+        missing_lowers (kind (nodes_of s) n) refl (of_other e code_kind.Str (λ z. let h : rust.None ≡ rust.Some code_kind.Str = sym q ∙ z in cc))
+        (λ nodes lower merge. none_missing (kind (nodes_of s) n) (sym q ∙ e) nodes lower merge n) x
 
-  pub uri_arm : k ≡ 10 → Lowering 0 (λ _. 0) one_expr (λ nodes. alloc_expr (literal uri) (pointer nodes n)) s r t → LowersNode depth n s r t
-  unfolding lower_as when
-  uri_arm q x = arm 10 q (λ z. omega arith) (own_room x)
+    module _ (k : SyntaxKind) (there : m ≡ rust.Some k) where
+      pub missing_arm : Rest k → Lowering 0 (λ _. 0) one_expr (λ nodes. alloc_expr missing (pointer nodes n)) s r t → LowersNode depth n s r t
+      unfolding number_of_syntax
+      missing_arm h x = missing_lowers (number_of_syntax k) (sym (of_kind e k there)) (λ z. h.5 (syntax_same k code_kind.Str z)) (λ nodes lower merge. rest_missing k h nodes lower merge n) x
 
-  pub ident_arm : k ≡ 18 → Lowering 0 (λ _. 0) one_expr (λ nodes. lower_ident nodes (lower_at (depth - 1) nodes) (merge_at (depth - 1) nodes) n) s r t → LowersNode depth n s r t
-  unfolding lower_as when
-  ident_arm q x = arm 18 q (λ z. omega arith) (own_room x)
+      -- an arm of the match
+      arm : (c : SyntaxKind) → k ≡ c → (number_of_syntax c ≡ 6 → ⊥) → Whole (depth - 1) (number_of_syntax c) n s r t → LowersNode depth n s r t
+      arm c q o x = one_less depth n deep (own_pays (depth - 1) (number_of_syntax k) n (sym (of_kind e k there)) (rw q o) (by_kind (depth - 1) (number_of_syntax k) n (sym (of_kind e k there)) (rw q x)))
 
-  -- ---- Parens and Root: what is inside
-  inside : (p : rust.Option rust_node_id.NodeId) → node_of p ≡ kid (nodes_of s) 0 n → Opt (depth - 1) p s r t → Lowering 0 (below n) own_node (λ nodes. lower_opt nodes (lower_at (depth - 1) nodes) (merge_at (depth - 1) nodes) (kid nodes 0 n)) s r t
-  unfolding covers price one_expr own_node
-  inside p f x =
-      all_lower
-      (rw (← f) (fits 0 (λ w. let b : place (nodes_of s) (node_of p) ≤ below n (nodes_of s) = rw f (kid_below w n) in omega (arith, heft_place (nodes_of s) (node_of p))) refl (x.at _ _)))
+      -- ---- kinds that have a function of their own
+      pub pair_arm : (k ≡ code_kind.Apply) ⊎ ((k ≡ code_kind.With) ⊎ (k ≡ code_kind.Assert))
+          → Lowering 0 (below n) own_node (λ nodes. lowering.pair nodes (lower_at (depth - 1) nodes) (merge_at (depth - 1) nodes) (form_of (number_of_syntax k)) n) s r t → LowersNode depth n s r t
+      unfolding lower_as when form_of number_of_syntax
+      pair_arm h x =
+          elim h [
+            | inl q ↦ arm code_kind.Apply q (λ z. omega arith) (rw q at x)
+            | inr g ↦ elim g [ inl q ↦ arm code_kind.With q (λ z. omega arith) (rw q at x) | inr q ↦ arm code_kind.Assert q (λ z. omega arith) (rw q at x) ]
+          ]
 
-  pub paren_arm : (p : rust.Option rust_node_id.NodeId) → k ≡ 15 → node_of p ≡ kid (nodes_of s) 0 n → Opt (depth - 1) p s r t → LowersNode depth n s r t
-  unfolding lower_as when
-  paren_arm p q f x = arm 15 q (λ z. omega arith) (inside p f x)
+      pub cond_arm : k ≡ code_kind.IfElse → Lowering 0 (below n) own_node (λ nodes. lower_if_else nodes (lower_at (depth - 1) nodes) (merge_at (depth - 1) nodes) n) s r t → LowersNode depth n s r t
+      unfolding lower_as when number_of_syntax
+      cond_arm q x = arm code_kind.IfElse q (λ z. omega arith) x
 
-  pub root_arm : (p : rust.Option rust_node_id.NodeId) → k ≡ 21 → node_of p ≡ kid (nodes_of s) 0 n → Opt (depth - 1) p s r t → LowersNode depth n s r t
-  unfolding lower_as when
-  root_arm p q f x = arm 21 q (λ z. omega arith) (inside p f x)
+      pub select_arm : k ≡ code_kind.Select → Lowering 0 (below n) own_node (λ nodes. lower_select nodes (lower_at (depth - 1) nodes) (merge_at (depth - 1) nodes) n) s r t → LowersNode depth n s r t
+      unfolding lower_as when number_of_syntax
+      select_arm q x = arm code_kind.Select q (λ z. omega arith) x
 
-  -- ---- Error and LegacyLet, and any number that is no expression's
-  pub missing_arm : NoneOf arm_kinds k → Lowering 0 (λ _. 0) one_expr (λ nodes. alloc_expr missing (pointer nodes n)) s r t → LowersNode depth n s r t
-  missing_arm o x =
-      let all : Whole (depth - 1) k n s r t = all_lower (rw (← rest_missing k o (nodes_of s) (lower_at (depth - 1) (nodes_of s)) (merge_at (depth - 1) (nodes_of s)) n) ((own_room x).at _ _)) in
-      one_less depth n deep (own_pays (depth - 1) k n e (other k o 6 refl) (by_kind (depth - 1) k n e all))
+      pub has_arm : k ≡ code_kind.HasAttr → Lowering 0 (below n) own_node (λ nodes. lower_has_attr nodes (lower_at (depth - 1) nodes) (merge_at (depth - 1) nodes) n) s r t → LowersNode depth n s r t
+      unfolding lower_as when number_of_syntax
+      has_arm q x = arm code_kind.HasAttr q (λ z. omega arith) x
+
+      pub path_arm : k ≡ code_kind.Path → Lowering 0 (below n) own_node (λ nodes. lower_path nodes (lower_at (depth - 1) nodes) (merge_at (depth - 1) nodes) n) s r t → LowersNode depth n s r t
+      unfolding lower_as when number_of_syntax
+      path_arm q x = arm code_kind.Path q (λ z. omega arith) x
+
+      pub lambda_arm : k ≡ code_kind.Lambda → Lowering 0 (below n) own_node (λ nodes. lower_lambda nodes (lower_at (depth - 1) nodes) (merge_at (depth - 1) nodes) n) s r t → LowersNode depth n s r t
+      unfolding lower_as when number_of_syntax
+      lambda_arm q x = arm code_kind.Lambda q (λ z. omega arith) x
+
+      pub let_arm : k ≡ code_kind.LetIn → Lowering 0 (below n) own_node (λ nodes. lower_let_in nodes (lower_at (depth - 1) nodes) (merge_at (depth - 1) nodes) n) s r t → LowersNode depth n s r t
+      unfolding lower_as when number_of_syntax
+      let_arm q x = arm code_kind.LetIn q (λ z. omega arith) x
+
+      pub list_arm : k ≡ code_kind.List → Lowering 0 (below n) own_node (λ nodes. lower_list nodes (lower_at (depth - 1) nodes) (merge_at (depth - 1) nodes) n) s r t → LowersNode depth n s r t
+      unfolding lower_as when number_of_syntax
+      list_arm q x = arm code_kind.List q (λ z. omega arith) x
+
+      pub binop_arm : k ≡ code_kind.BinOp → Lowering 0 (below n) own_node (λ nodes. lower_bin_op nodes (lower_at (depth - 1) nodes) (merge_at (depth - 1) nodes) n) s r t → LowersNode depth n s r t
+      unfolding lower_as when number_of_syntax
+      binop_arm q x = arm code_kind.BinOp q (λ z. omega arith) x
+
+      pub set_arm : k ≡ code_kind.AttrSet → Lowering 0 (below n) own_node (λ nodes. lower_attr_set nodes (lower_at (depth - 1) nodes) (merge_at (depth - 1) nodes) n) s r t → LowersNode depth n s r t
+      unfolding lower_as when number_of_syntax
+      set_arm q x = arm code_kind.AttrSet q (λ z. omega arith) x
+
+      pub unop_arm : k ≡ code_kind.UnaryOp → Lowering 0 (below n) own_node (λ nodes. lower_unary_op nodes (lower_at (depth - 1) nodes) (merge_at (depth - 1) nodes) n) s r t → LowersNode depth n s r t
+      unfolding lower_as when number_of_syntax
+      unop_arm q x = arm code_kind.UnaryOp q (λ z. omega arith) x
+
+      pub string_arm : k ≡ code_kind.Str → Lowering 0 (below n) one_expr (λ nodes. lower_string nodes (lower_at (depth - 1) nodes) (merge_at (depth - 1) nodes) n) s r t → LowersNode depth n s r t
+      unfolding lower_as when number_of_syntax
+      string_arm q x = one_less depth n deep (str_lowers (depth - 1) (number_of_syntax k) n (sym (of_kind e k there)) (rw q) (rw q x))
+
+      -- ---- what has nothing below it
+      pub literal_arm : (k ≡ code_kind.Float) ⊎ (k ≡ code_kind.Integer) → Lowering 0 (λ _. 0) one_expr (λ nodes. alloc_literal nodes n (literal_held nodes (rust.Some k) n)) s r t → LowersNode depth n s r t
+      unfolding lower_as when number_of_syntax
+      literal_arm h x =
+          elim h [
+            | inl q ↦ arm code_kind.Float q (λ z. omega arith) (own_room (float_lowers (depth - 1) n (eq-eqb _ 8 (of_kind e k there ∙ ap number_of_syntax q)) (rw q at x)))
+            | inr q ↦ arm code_kind.Integer q (λ z. omega arith) (own_room (integer_lowers (depth - 1) n (rw q at x)))
+          ]
+
+      pub uri_arm : k ≡ code_kind.Uri → Lowering 0 (λ _. 0) one_expr (λ nodes. alloc_expr (literal uri) (pointer nodes n)) s r t → LowersNode depth n s r t
+      unfolding lower_as when number_of_syntax
+      uri_arm q x = arm code_kind.Uri q (λ z. omega arith) (own_room x)
+
+      pub ident_arm : k ≡ code_kind.Ident → Lowering 0 (λ _. 0) one_expr (λ nodes. lower_ident nodes (lower_at (depth - 1) nodes) (merge_at (depth - 1) nodes) n) s r t → LowersNode depth n s r t
+      unfolding lower_as when number_of_syntax
+      ident_arm q x = arm code_kind.Ident q (λ z. omega arith) (own_room x)
+
+      -- ---- Parens and Root: what is inside
+      inside : (p : rust.Option rust_node_id.NodeId) → node_of p ≡ kid (nodes_of s) 0 n → Opt (depth - 1) p s r t → Lowering 0 (below n) own_node (λ nodes. lower_opt nodes (lower_at (depth - 1) nodes) (merge_at (depth - 1) nodes) (kid nodes 0 n)) s r t
+      unfolding covers price one_expr own_node
+      inside p f x =
+          all_lower
+          (rw (← f) (fits 0 (λ w. let b : place (nodes_of s) (node_of p) ≤ below n (nodes_of s) = rw f (kid_below w n) in omega (arith, heft_place (nodes_of s) (node_of p))) refl (x.at _ _)))
+
+      pub inside_arm : (p : rust.Option rust_node_id.NodeId) → (k ≡ code_kind.Paren) ⊎ (k ≡ code_kind.Root) → node_of p ≡ kid (nodes_of s) 0 n → Opt (depth - 1) p s r t → LowersNode depth n s r t
+      unfolding lower_as when number_of_syntax
+      inside_arm p h f x =
+          elim h [ inl q ↦ arm code_kind.Paren q (λ z. omega arith) (inside p f x) | inr q ↦ arm code_kind.Root q (λ z. omega arith) (inside p f x) ]

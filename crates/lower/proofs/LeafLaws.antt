@@ -8,7 +8,7 @@ use Prim.Native.Nat.{ℕ}
 use native.Mathlib.Omega.{arith}
 use lib.ListN.{length}
 use lib.Dec.{eqb}
-use borrow.Author.Tests.{eq-eqb, ne_eqb}
+use borrow.Author.Tests.{ne_eqb}
 use Rattle.spec.specs.Basics.{Text, NodeId, ExprId}
 use Rattle.spec.specs.Sheet.{Node}
 use Rattle.spec.specs.Keys.{kind, flag, text, pointer}
@@ -44,6 +44,10 @@ use Rattle.merge.proofs.Steps.{gave, as_step, fits, all_lower}
 use Rattle.merge.proofs.Allocs.{taken_lone, missing_taken, named}
 use Rattle.lower.specs.Sizes.{sized, place}
 use Rattle.lower.specs.Parts.{lower_at, merge_at, form_of, IsForm}
+use Rattle.module.specs.SyntaxKinds.{number_of_syntax}
+use Rattle.module.specs.declared.syntax_kind.SyntaxKind.{SyntaxKind}
+use Rattle.module.specs.declared.syntax_kind.SyntaxKind.TheVariants as code_kind
+use Rattle.module.proofs.SyntaxKindLaws.{syntax_same}
 use Rattle.std.specs.Prelude as rust
 
 -- ---- an expression without items
@@ -61,18 +65,21 @@ pub as_nodes : {s : List ℕ} {r : ℕ} {t : List ℕ} {q : Low ExprId} (p : Lis
 as_nodes {s = s} p e x = all_lower (rw (← e) (x.at (nodes_of s) (waiting_of s)))
 
 -- ---- the form of two operands
-module _ (kind : ℕ) (a b : code_expr.ExprId) where
-  pub form_apply : kind ≡ 1 → IsForm kind a.0 b.0 (code.Apply a b)
-  unfolding form_of expr_with ValidExpr
-  form_apply h = record { same = λ texts is. rw (eq-eqb kind 1 h); valid = tt }
+module _ (k : SyntaxKind) (a b : code_expr.ExprId) where
+  pub form_apply : k ≡ code_kind.Apply → IsForm (number_of_syntax k) a.0 b.0 (code.Apply a b)
+  unfolding form_of expr_with ValidExpr number_of_syntax
+  form_apply h = record { same = λ texts is. rw h; valid = tt }
 
-  pub form_with : (kind ≡ 1 → ⊥) → kind ≡ 4 → IsForm kind a.0 b.0 (code.With a b)
-  unfolding form_of expr_with ValidExpr
-  form_with g h = record { same = λ texts is. rw (ne_eqb kind 1 g, eq-eqb kind 4 h); valid = tt }
+  pub form_with : k ≡ code_kind.With → IsForm (number_of_syntax k) a.0 b.0 (code.With a b)
+  unfolding form_of expr_with ValidExpr number_of_syntax
+  form_with h = record { same = λ texts is. rw h; valid = tt }
 
-  pub form_assert : (kind ≡ 1 → ⊥) → (kind ≡ 4 → ⊥) → IsForm kind a.0 b.0 (code.Assert a b)
-  unfolding form_of expr_with ValidExpr
-  form_assert g h = record { same = λ texts is. rw (ne_eqb kind 1 g, ne_eqb kind 4 h); valid = tt }
+  pub form_assert : (k ≡ code_kind.Apply → ⊥) → (k ≡ code_kind.With → ⊥) → IsForm (number_of_syntax k) a.0 b.0 (code.Assert a b)
+  unfolding form_of expr_with ValidExpr number_of_syntax
+  form_assert g h = record {
+    same = λ texts is. rw (ne_eqb (number_of_syntax k) 1 (λ z. g (syntax_same k code_kind.Apply z)), ne_eqb (number_of_syntax k) 4 (λ z. h (syntax_same k code_kind.With z)));
+    valid = tt;
+  }
 
 -- ---- a name
 -- a node has room for it
@@ -91,7 +98,7 @@ module _ (s : List ℕ) (k : NameKind) (m : rust.Option code_id.NodeId) where
   name_taken_lem n q x a p b {r} {t} d = rw q (all_lower (rw (← a, ← b) (fits 1 (λ w. omega (arith, positive w n.0)) name_covered (steps.then {top' = 0} (λ i. give (some i)) (omega arith) (named x k p d) (gave (some r))))))
 
 -- ---- a literal
-module _ (s : List ℕ) (n : NodeId) (k : ℕ) (m : rust.Option code_literal.Literal) (h : LiteralRead s (literal_held (nodes_of s) k n) m) where
+module _ (s : List ℕ) (n : NodeId) (k : rust.Option SyntaxKind) (m : rust.Option code_literal.Literal) (h : LiteralRead s (literal_held (nodes_of s) k n) m) where
   pub literal_fits : (l : code_literal.Literal) → m ≡ rust.Some l → ValidExpr (code.Literal l)
   unfolding ValidExpr
   literal_fits l q = literal_valid s m _ h l q
@@ -151,7 +158,7 @@ module _ (s : List ℕ) (n : NodeId) (p : Pointer) (b : p ≡ pointer (nodes_of 
 
 -- ---- what the arms of lowering make of it: the same with any number of levels left
 module _ (depth : ℕ) (n : NodeId) {s : List ℕ} {r : ℕ} {t : List ℕ} where
-  pub float_lowers : eqb (kind (nodes_of s) n) 8 ≡ true → Lowering 0 (λ _. 0) one_expr (λ nodes. alloc_literal nodes n (literal_held nodes 8 n)) s r t
+  pub float_lowers : eqb (kind (nodes_of s) n) 8 ≡ true → Lowering 0 (λ _. 0) one_expr (λ nodes. alloc_literal nodes n (literal_held nodes (rust.Some code_kind.Float) n)) s r t
       → Lowering 0 (λ _. 0) one_expr (λ nodes. lower_float nodes (lower_at depth nodes) (merge_at depth nodes) n) s r t
   float_lowers k x = record {
     at = λ nodes w.
@@ -160,7 +167,7 @@ module _ (depth : ℕ) (n : NodeId) {s : List ℕ} {r : ℕ} {t : List ℕ} wher
         (x.at nodes w);
   }
 
-  pub integer_lowers : Lowering 0 (λ _. 0) one_expr (λ nodes. alloc_literal nodes n (literal_held nodes 9 n)) s r t
+  pub integer_lowers : Lowering 0 (λ _. 0) one_expr (λ nodes. alloc_literal nodes n (literal_held nodes (rust.Some code_kind.Integer) n)) s r t
       → Lowering 0 (λ _. 0) one_expr (λ nodes. lower_integer nodes (lower_at depth nodes) (merge_at depth nodes) n) s r t
   integer_lowers x = record {
     at = λ nodes w. as_step (λ c. sym (ap (λ f. f (state_of s)) (lowers_integer nodes (lower_at depth nodes) (merge_at depth nodes) n))) (x.at nodes w);

@@ -2,13 +2,14 @@
 use mathlib.Core.Path.{◌≡◌, refl}
 use mathlib.Core.Bool.{true}
 use mathlib.Core.List.{List, [], ◌++◌, map}
-use mathlib.Core.Option.{Option, none, some}
+use mathlib.Core.Option.{Option, some}
 use Prim.Native.Nat.{ℕ, suc, ◌+◌, ◌≤◌}
 use native.Mathlib.Omega.{arith}
 use lib.ListN.{length}
 use Rattle.spec.specs.Basics.{NodeId, ExprId}
 use Rattle.spec.specs.Sheet.{Node}
 use Rattle.spec.specs.Module.{list}
+use Rattle.spec.specs.Tree.{node_at}
 use Rattle.spec.specs.Keys.{kid, items, items_after, pointer}
 use Rattle.spec.specs.Steps.{each, each_of}
 use Rattle.spec.specs.State.{SetId, Low, alloc_expr}
@@ -34,11 +35,11 @@ use Rattle.merge.specs.Room.{Price, ◌⊕◌, covers, nothing, price, one_expr,
 use Rattle.merge.specs.Lowers.{Lowers, Lowering, Collecting}
 use Rattle.merge.proofs.Steps.{nodes_still, then, fits, all_lower}
 use Rattle.lower.specs.Parts.{lower_at, merge_at, LowersNode, part_item, field_item, one}
-use Rattle.lower.specs.Reads.{attrs_from, FirstIn, FirstEntry}
+use Rattle.lower.specs.Reads.{attrs_from, FirstEntry}
 use Rattle.lower.specs.Sizes.{sized, below, sizes, place}
 use Rattle.lower.proofs.SizeLaws.{own_and_below, after_size}
 use Rattle.lower.proofs.WaitLaws.{children_back, children_suit, taken_from, all_collect}
-use Rattle.lower.proofs.Loops.{then_pushed, Merges, Gathering, gathering_turn, gathering_end, Merging, merging_end}
+use Rattle.lower.proofs.Loops.{then_pushed, gathers_none, Merges, Gathering, Merging, merging_end}
 use Rattle.module.specs.declared.ids.NodeId as rust_node_id
 use Rattle.std.specs.Prelude as rust
 
@@ -64,31 +65,48 @@ child_waits : {own : Price} (p : List Node → Low ExprId) (k : NodeId) (e : cod
 unfolding item_with
 child_waits p k e c x d = record { at = λ nodes w. fits 1 (λ h. omega (arith, own_and_below h k)) c (then_pushed child (x.at nodes w) d) }
 
-abbrev pub AttrpathLeft : (depth : ℕ) (way : Option NodeId) (s : List ℕ) (i : ℕ) (u : List ℕ) → Type 0
-AttrpathLeft depth way s i u =
-    Gathering (λ nodes k. lower_attr nodes (lower_at depth nodes) (merge_at depth nodes) k) child way
-    (λ t. Collecting 0 (λ nodes. place nodes way) nothing (map child) (λ nodes. lower_attrpath_opt nodes (lower_at depth nodes) (merge_at depth nodes) way) s t) s i u
+abbrev pub Attributed : (depth : ℕ) (way : Option NodeId) (s t : List ℕ) → Type 0
+Attributed depth way s t = Collecting 0 (λ nodes. place nodes way) nothing (map child) (λ nodes. lower_attrpath_opt nodes (lower_at depth nodes) (merge_at depth nodes) way) s t
 
-pub attrpath_start : (depth : ℕ) (way : Option NodeId) (s : List ℕ) → AttrpathLeft depth way s 0 s
+abbrev pub AttrpathLeft : (depth : ℕ) (n : NodeId) (s : List ℕ) (i : ℕ) (u : List ℕ) → Type 0
+AttrpathLeft depth n s i u = Gathering (λ nodes k. lower_attr nodes (lower_at depth nodes) (merge_at depth nodes) k) child (some n) (λ t. Attributed depth (some n) s t) s i u
+
+pub attrpath_absent : (depth : ℕ) {way : rust.Option rust_node_id.NodeId} (s : List ℕ) → way ≡ rust.None → Attributed depth (node_of way) s s
+unfolding node_of lower_attrpath_opt attributes place sizes
+attrpath_absent depth s q = rw q (all_collect (map child) ((gathers_none _ (λ nodes k. lower_attr nodes (lower_at depth nodes) (merge_at depth nodes) k) child s).at (waiting_of s)))
+
+pub attrpath_start : (depth : ℕ) (n : NodeId) (s : List ℕ) → AttrpathLeft depth n s 0 s
 unfolding attrs_from items_from items lower_attrpath_opt attributes place sizes covers nothing price
-attrpath_start depth none s = record { long = refl; nodes_are = refl; whole = λ t r. all_collect (map child) (r.at (waiting_of s)) }
-attrpath_start depth (some n) s = record { long = refl; nodes_are = refl; whole = λ t r. all_collect (map child) (fits 0 (λ w. omega (arith, items_below w n)) refl (r.at (waiting_of s))) }
+attrpath_start depth n s = record { long = refl; nodes_are = refl; whole = λ t r. all_collect (map child) (fits 0 (λ w. omega (arith, items_below w n)) refl (r.at (waiting_of s))) }
 
-pub attrpath_turn : (depth : ℕ) {way : Option NodeId} {s : List ℕ} {i : ℕ} {u : List ℕ} → AttrpathLeft depth way s i u
-    → {k : NodeId} {j : ℕ} → FirstIn (nodes_of u) i way k j
-    → (e : code_id.ExprId) {v t : List ℕ} → Lowering 0 (below k) one_expr (λ nodes. lower_attr nodes (lower_at depth nodes) (merge_at depth nodes) k) u e.0 v
-    → Did (push_item (item_with (text_in v) (code_item.Child e))) v tt t → AttrpathLeft depth way s j t
+pub attr_waits : (depth : ℕ) (k : NodeId) (e : code_id.ExprId) {u v t : List ℕ} → Lowering 0 (below k) one_expr (λ nodes. lower_attr nodes (lower_at depth nodes) (merge_at depth nodes) k) u e.0 v
+    → Did (push_item (item_with (text_in v) (code_item.Child e))) v tt t
+    → Collecting 0 (λ nodes. sized nodes k) nothing (one child) (λ nodes. lower_attr nodes (lower_at depth nodes) (merge_at depth nodes) k) u t
 unfolding covers ◌⊕◌ nothing price one_expr one_item
-attrpath_turn depth g {k} n e x d = gathering_turn g n (child_waits (λ nodes. lower_attr nodes (lower_at depth nodes) (merge_at depth nodes) k) k e refl x d)
+attr_waits depth k e x d = child_waits (λ nodes. lower_attr nodes (lower_at depth nodes) (merge_at depth nodes) k) k e refl x d
+
+pub attrpath_end : (depth : ℕ) (n : rust_node_id.NodeId) {way : rust.Option rust_node_id.NodeId} {s u : List ℕ} → way ≡ rust.Some n → Attributed depth (some n.0) s u → Attributed depth (node_of way) s u
+unfolding node_of
+attrpath_end depth n q x = rw q x
 
 -- ---- fields
-abbrev pub FieldsLeft : (depth : ℕ) (owner : Option NodeId) (s : List ℕ) (i : ℕ) (u : List ℕ) → Type 0
-FieldsLeft depth owner s i u =
-    Gathering (λ nodes k. lower_field nodes (lower_at depth nodes) (merge_at depth nodes) k) field_item owner
-    (λ t. Collecting 0 (λ nodes. sizes nodes (attrs_from nodes 1 owner)) nothing (map field_item) (λ nodes. each (lower_field nodes (lower_at depth nodes) (merge_at depth nodes)) (attrs_from nodes 1 owner)) s t) s i u
+abbrev pub Fielded : (depth : ℕ) (owner : Option NodeId) (s t : List ℕ) → Type 0
+Fielded depth owner s t =
+    Collecting 0 (λ nodes. sizes nodes (attrs_from nodes 1 owner)) nothing (map field_item) (λ nodes. each (lower_field nodes (lower_at depth nodes) (merge_at depth nodes)) (attrs_from nodes 1 owner)) s t
 
-pub fields_start : (depth : ℕ) (owner : Option NodeId) (s : List ℕ) → FieldsLeft depth owner s 1 s
-fields_start depth owner s = record { long = refl; nodes_are = refl; whole = λ t r. all_collect (map field_item) (r.at (waiting_of s)) }
+abbrev pub FieldsLeft : (depth : ℕ) (n : NodeId) (s : List ℕ) (i : ℕ) (u : List ℕ) → Type 0
+FieldsLeft depth n s i u = Gathering (λ nodes k. lower_field nodes (lower_at depth nodes) (merge_at depth nodes) k) field_item (some n) (λ t. Fielded depth (some n) s t) s i u
+
+pub fields_absent : (depth : ℕ) {owner : rust.Option rust_node_id.NodeId} (s : List ℕ) → owner ≡ rust.None → Fielded depth (node_of owner) s s
+unfolding node_of attrs_from sizes
+fields_absent depth s q = rw q (all_collect (map field_item) ((gathers_none _ (λ nodes k. lower_field nodes (lower_at depth nodes) (merge_at depth nodes) k) field_item s).at (waiting_of s)))
+
+pub fields_end : (depth : ℕ) (n : rust_node_id.NodeId) {owner : rust.Option rust_node_id.NodeId} {s u : List ℕ} → owner ≡ rust.Some n → Fielded depth (some n.0) s u → Fielded depth (node_of owner) s u
+unfolding node_of
+fields_end depth n q x = rw q x
+
+pub fields_start : (depth : ℕ) (n : NodeId) (s : List ℕ) → FieldsLeft depth n s 1 s
+fields_start depth n s = record { long = refl; nodes_are = refl; whole = λ t r. all_collect (map field_item) (r.at (waiting_of s)) }
 
 -- ---- list: its items wait, and then the expression takes them
 abbrev pub ListLeft : (depth : ℕ) (n : NodeId) (s : List ℕ) (i : ℕ) (u : List ℕ) → Type 0
@@ -100,14 +118,12 @@ pub list_start : (depth : ℕ) (n : NodeId) (s : List ℕ) → ListLeft depth n 
 unfolding attrs_from items_from items below covers nothing price
 list_start depth n s = record { long = refl; nodes_are = refl; whole = λ t r. all_collect (map child) (fits 0 (λ w. omega (arith, items_below w n)) refl (r.at (waiting_of s))) }
 
-pub list_turn : (depth : ℕ) {n : NodeId} {s : List ℕ} {i : ℕ} {u : List ℕ} → ListLeft depth n s i u
-    → {k : NodeId} {j : ℕ} → FirstIn (nodes_of u) i (some n) k j
-    → (e : code_id.ExprId) {v t : List ℕ} → LowersNode depth k u e.0 v
-    → Did (push_item (item_with (text_in v) (code_item.Child e))) v tt t → ListLeft depth n s j t
+pub item_waits : (depth : ℕ) (k : NodeId) (e : code_id.ExprId) {u v t : List ℕ} → LowersNode depth k u e.0 v
+    → Did (push_item (item_with (text_in v) (code_item.Child e))) v tt t → Collecting 0 (λ nodes. sized nodes k) nothing (one child) (λ nodes. lower_expr nodes depth k) u t
 unfolding covers ◌⊕◌ nothing price own_node one_item
-list_turn depth g {k} n e x d = gathering_turn g n (child_waits (λ nodes. lower_expr nodes depth k) k e refl x.whole d)
+item_waits depth k e x d = child_waits (λ nodes. lower_expr nodes depth k) k e refl x.whole d
 
-list_taken : (depth : ℕ) (n : NodeId) {s u t : List ℕ} {base : ℕ} (p : code_pointer.Pointer) {r : ℕ}
+pub list_taken : (depth : ℕ) (n : NodeId) {s u t : List ℕ} {base : ℕ} (p : code_pointer.Pointer) {r : ℕ}
     → base ≡ length (waiting_of s) → pointer_of p ≡ pointer (nodes_of s) n
     → Collecting 0 (below n) nothing (map child) (λ nodes. each (lower_at depth nodes) (items nodes n)) s u
     → Takes (sort_for code_expr.List) (expr_made u code_expr.List (pointer_of p)) base u r t
@@ -119,12 +135,6 @@ list_taken depth n {s} {u} {t} {base} p {r} b q c d =
     taken_from s code_expr.List (pointer_of p) (map child es) (children_suit 16 es refl) b d in
     let y : Lowers (nodes_of s) (waiting_of s ++ map child es) (waiting_of s) 0 0 one_expr (alloc_expr (list es) (pointer (nodes_of s) n)) u r t = rw (children_back es, q) at x in
     all_lower (fits 0 (λ _. omega arith) refl (then {top' = 0} (λ zs. alloc_expr (list zs) (pointer (nodes_of s) n)) (omega arith) (c.at (nodes_of s) (waiting_of s)) y))
-
-pub list_end : (depth : ℕ) (n : NodeId) {s : List ℕ} {i : ℕ} {u t : List ℕ} {base : ℕ} (p : code_pointer.Pointer) {r : ℕ} → ListLeft depth n s i u
-    → base ≡ length (waiting_of s) → pointer_of p ≡ pointer (nodes_of s) n → attrs_from (nodes_of u) i (some n) ≡ []
-    → Takes (sort_for code_expr.List) (expr_made u code_expr.List (pointer_of p)) base u r t
-    → Lowering 0 (below n) own_node (λ nodes. lower_list nodes (lower_at depth nodes) (merge_at depth nodes) n) s r t
-list_end depth n p g b q e d = list_taken depth n p b q (gathering_end g e) d
 
 -- ---- entries
 abbrev pub EntriesLeft : (depth : ℕ) (into : SetId) (n : NodeId) (s : List ℕ) (i : ℕ) (u : List ℕ) → Type 0
@@ -151,12 +161,12 @@ inherits_start depth into set n s = record { long = refl; nodes_are = refl; whol
 
 pub inherits_end : (depth : ℕ) (into : SetId) (n : NodeId) (from : rust.Option rust_node_id.NodeId) (set : rust.Option code_id.ExprId) {s u : List ℕ} {i : ℕ} {t : List ℕ} → node_of from ≡ kid (nodes_of s) 0 n
     → Lowering (suc into) (λ nodes. place nodes (node_of from)) nothing (λ nodes. inherit_source nodes (lower_at depth nodes) (merge_at depth nodes) into (node_of from)) s (expr_of set) u
-    → InheritsLeft depth into (expr_of set) n u i t → attrs_from (nodes_of t) i (some n) ≡ []
+    → InheritsLeft depth into (expr_of set) n u i t → {count : ℕ} → count ≡ length (node_at (nodes_of u) n).kids → count ≤ i
     → Lowering (suc into) (λ nodes. sized nodes n) nothing (λ nodes. merge_inherit nodes (lower_at depth nodes) (merge_at depth nodes) into n) s tt t
 unfolding attrs_from place merge_inherit covers ◌⊕◌ nothing price
-inherits_end depth into n from set {s} {u} {i} {t} e x g h =
+inherits_end depth into n from set {s} {u} {i} {t} e x g c h =
     let each_of_lem : Option ExprId → Low (Unit {0}) = λ a. each_of (inherit_attr (nodes_of s) (lower_at depth (nodes_of s)) (merge_at depth (nodes_of s)) into a) (items_after (nodes_of s) n) in
-    let r = rw (nodes_still s u (x.at (nodes_of s) []).still) at (merging_end g h) in
+    let r = rw (nodes_still s u (x.at (nodes_of s) []).still) at (merging_end g c h) in
     let y : Lowers (nodes_of s) (waiting_of s) (waiting_of s) (suc into) (sizes (nodes_of s) (items_from (nodes_of s) 1 n)) nothing (each_of_lem (expr_of set)) u tt t = rw (← items_after_are (nodes_of s) n) (r.at (waiting_of s)) in
     let z : Lowers (nodes_of s) (waiting_of s) (waiting_of s) (suc into) (place (nodes_of s) (kid (nodes_of s) 0 n)) nothing (inherit_source (nodes_of s) (lower_at depth (nodes_of s)) (merge_at depth (nodes_of s)) into (kid (nodes_of s) 0 n)) s (expr_of set) u =
     rw e at (x.at (nodes_of s) (waiting_of s)) in

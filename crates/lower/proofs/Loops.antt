@@ -1,14 +1,18 @@
 -- The loops of lowering: over the items of a place from one to the next, each is one step. Assumes nothing.
 use mathlib.Core.Path.{◌≡◌, refl, sym, ap, ◌∙◌}
 use mathlib.Core.List.{List, [], ◌∷◌, ◌++◌, map, append-nil, append_assoc}
-use mathlib.Core.Option.{Option}
-use Prim.Native.Nat.{ℕ, ◌+◌}
+use mathlib.Core.Option.{Option, some}
+use Prim.Native.Nat.{ℕ, ◌+◌, ◌≤◌, ◌<◌}
 use native.Mathlib.Omega.{arith}
 use lib.ListN.{length}
 use Rattle.spec.specs.Basics.{NodeId}
 use Rattle.spec.specs.Sheet.{Node}
+use Rattle.spec.specs.Tree.{node_at}
+use Rattle.spec.specs.Keys.{kid}
 use Rattle.spec.specs.Steps.{◌>>=◌, give, each, each_of}
 use Rattle.spec.specs.State.{State, Low}
+use Rattle.module.specs.Ids.{node_of}
+use Rattle.module.specs.declared.ids.NodeId as code_id
 use Rattle.layout.specs.Exprs.{Item}
 use Rattle.layout.specs.Nodes.{nodes_of}
 use Rattle.layout.specs.States.{state_of}
@@ -17,9 +21,11 @@ use Rattle.merge.specs.Room.{Price, ◌⊕◌, covers, nothing, price, one_item}
 use Rattle.merge.specs.Lowers.{Lowers, Lowering, Collecting}
 use Rattle.merge.proofs.Steps.{nodes_still, then, gave, as_step, fits}
 use Rattle.lower.specs.Parts.{one}
-use Rattle.lower.specs.Reads.{attrs_from, FirstIn}
+use Rattle.lower.specs.Reads.{attrs_from}
 use Rattle.lower.specs.Sizes.{sized, sizes}
 use Rattle.lower.proofs.WaitLaws.{pushed_giving}
+use Rattle.keys.proofs.ItemLaws.{items_none, items_some, items_past, kid_read, kid_missing}
+use Rattle.std.specs.Prelude as rust
 
 -- ---- a step whose result waits
 give_after : {A : Type 0} (p : Low A) (st : State) → ◌≡◌ {A = A × State} ((p >>= give) st) (p st)
@@ -100,26 +106,53 @@ pub record Merging (top : ℕ) (f : List Node → NodeId → Low (Unit {0})) (pl
   pub nodes_are : nodes_of u ≡ nodes_of s
   pub whole : (t : List ℕ) → Merges (nodes_of s) top f (attrs_from (nodes_of s) i place) u t → Whole t
 
-module _ {A : Type 0} {f : List Node → NodeId → Low A} {item : A → Item} {place : Option NodeId} {Whole : List ℕ → Type 0} {s : List ℕ} {i : ℕ} {u : List ℕ}
-    (g : Gathering f item place Whole s i u) where
-  pub gathering_turn : {k : NodeId} {j : ℕ} {v : List ℕ} → FirstIn (nodes_of u) i place k j → Collecting 0 (λ nodes. sized nodes k) nothing (one item) (λ nodes. f nodes k) u v → Gathering f item place Whole s j v
-  gathering_turn {k} {j} {v} n c = record {
-    long = (c.at (nodes_of s) []).wrote.size ∙ g.long;
-    nodes_are = nodes_still u v (c.at (nodes_of s) []).still ∙ g.nodes_are;
-    whole = λ t r. g.whole t (rw (rw g.nodes_are at n.items) (gathers_more (nodes_of s) f item k (attrs_from (nodes_of s) j place) c r));
-  }
+-- ---- the next place: where its kid is there, the loop takes it, and else it goes on
+module _ (s u : List ℕ) (n : NodeId) (i count : ℕ) (same : nodes_of u ≡ nodes_of s) (c : count ≡ length (node_at (nodes_of s) n).kids) where
+  within : i < count → i < length (node_at (nodes_of u) n).kids
+  within h = rw same (omega arith)
 
-  pub gathering_end : attrs_from (nodes_of u) i place ≡ [] → Whole u
-  gathering_end e = g.whole u (rw (rw g.nodes_are at e) (gathers_none (nodes_of s) f item u))
+  kid_next : i < count → {m : rust.Option code_id.NodeId} {k : code_id.NodeId} → m ≡ rust.Some k → node_of m ≡ kid (nodes_of u) i n
+      → attrs_from (nodes_of s) i (some n) ≡ k.0 ∷ attrs_from (nodes_of s) (i + 1) (some n)
+  unfolding attrs_from
+  kid_next h {k = k} q e = rw (← same) (items_some (nodes_of u) n i (within h) k.0 (kid_read q e))
 
-module _ {top : ℕ} {f : List Node → NodeId → Low (Unit {0})} {place : Option NodeId} {Whole : List ℕ → Type 0} {s : List ℕ} {i : ℕ} {u : List ℕ}
-    (g : Merging top f place Whole s i u) where
-  pub merging_turn : {k : NodeId} {j : ℕ} {v : List ℕ} → FirstIn (nodes_of u) i place k j → Lowering top (λ nodes. sized nodes k) nothing (λ nodes. f nodes k) u tt v → Merging top f place Whole s j v
-  merging_turn {k} {j} {v} n c = record {
-    long = (c.at (nodes_of s) []).wrote.size ∙ g.long;
-    nodes_are = nodes_still u v (c.at (nodes_of s) []).still ∙ g.nodes_are;
-    whole = λ t r. g.whole t (rw (rw g.nodes_are at n.items) (merges_more (nodes_of s) top f k (attrs_from (nodes_of s) j place) c r));
-  }
+  kid_passed : i < count → {m : rust.Option code_id.NodeId} → m ≡ rust.None → node_of m ≡ kid (nodes_of u) i n
+      → attrs_from (nodes_of s) i (some n) ≡ attrs_from (nodes_of s) (i + 1) (some n)
+  unfolding attrs_from
+  kid_passed h q e = rw (← same) (items_none (nodes_of u) n i (within h) (kid_missing q e))
 
-  pub merging_end : attrs_from (nodes_of u) i place ≡ [] → Whole u
-  merging_end e = g.whole u (rw (rw g.nodes_are at e) (merges_none (nodes_of s) top f u))
+  kids_over : count ≤ i → attrs_from (nodes_of s) i (some n) ≡ []
+  unfolding attrs_from
+  kids_over h = items_past (nodes_of s) n i (omega arith)
+
+module _ {A : Type 0} {f : List Node → NodeId → Low A} {item : A → Item} {n : NodeId} {Whole : List ℕ → Type 0} {s : List ℕ} {i : ℕ} {u : List ℕ} {count : ℕ}
+    (g : Gathering f item (some n) Whole s i u) (c : count ≡ length (node_at (nodes_of s) n).kids) where
+  module _ (h : i < count) {m : rust.Option code_id.NodeId} (e : node_of m ≡ kid (nodes_of u) i n) where
+    pub gathering_turn : {k : code_id.NodeId} {v : List ℕ} → m ≡ rust.Some k → Collecting 0 (λ nodes. sized nodes k.0) nothing (one item) (λ nodes. f nodes k.0) u v → Gathering f item (some n) Whole s (i + 1) v
+    gathering_turn {k} {v} q x = record {
+      long = (x.at (nodes_of s) []).wrote.size ∙ g.long;
+      nodes_are = nodes_still u v (x.at (nodes_of s) []).still ∙ g.nodes_are;
+      whole = λ t r. g.whole t (rw (kid_next s u n i count g.nodes_are c h q e) (gathers_more (nodes_of s) f item k.0 (attrs_from (nodes_of s) (i + 1) (some n)) x r));
+    }
+
+    pub gathering_skip : m ≡ rust.None → Gathering f item (some n) Whole s (i + 1) u
+    gathering_skip q = record { long = g.long; nodes_are = g.nodes_are; whole = λ t r. g.whole t (rw (kid_passed s u n i count g.nodes_are c h q e) r) }
+
+  pub gathering_end : count ≤ i → Whole u
+  gathering_end h = g.whole u (rw (kids_over s u n i count g.nodes_are c h) (gathers_none (nodes_of s) f item u))
+
+module _ {top : ℕ} {f : List Node → NodeId → Low (Unit {0})} {n : NodeId} {Whole : List ℕ → Type 0} {s : List ℕ} {i : ℕ} {u : List ℕ} {count : ℕ}
+    (g : Merging top f (some n) Whole s i u) (c : count ≡ length (node_at (nodes_of s) n).kids) where
+  module _ (h : i < count) {m : rust.Option code_id.NodeId} (e : node_of m ≡ kid (nodes_of u) i n) where
+    pub merging_turn : {k : code_id.NodeId} {v : List ℕ} → m ≡ rust.Some k → Lowering top (λ nodes. sized nodes k.0) nothing (λ nodes. f nodes k.0) u tt v → Merging top f (some n) Whole s (i + 1) v
+    merging_turn {k} {v} q x = record {
+      long = (x.at (nodes_of s) []).wrote.size ∙ g.long;
+      nodes_are = nodes_still u v (x.at (nodes_of s) []).still ∙ g.nodes_are;
+      whole = λ t r. g.whole t (rw (kid_next s u n i count g.nodes_are c h q e) (merges_more (nodes_of s) top f k.0 (attrs_from (nodes_of s) (i + 1) (some n)) x r));
+    }
+
+    pub merging_skip : m ≡ rust.None → Merging top f (some n) Whole s (i + 1) u
+    merging_skip q = record { long = g.long; nodes_are = g.nodes_are; whole = λ t r. g.whole t (rw (kid_passed s u n i count g.nodes_are c h q e) r) }
+
+  pub merging_end : count ≤ i → Whole u
+  merging_end h = g.whole u (rw (kids_over s u n i count g.nodes_are c h) (merges_none (nodes_of s) top f u))

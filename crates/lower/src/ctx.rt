@@ -35,7 +35,9 @@ use merge::{
     add_dynamic, add_source, finish_nested, finish_set, get_or_create_nested_static, inherit_value,
     merge_static_value,
 };
-use module::{BindingValue, Expr, ExprId, Item, Literal, NameKind, NodeId, Pointer, SyntaxKind, TextId};
+use module::{
+    BindingValue, Expr, ExprId, Item, Literal, NameKind, NodeId, Pointer, SyntaxKind, TextId,
+};
 use open_sets::{SetId, cut, entry_count, open_set, set_count};
 use store::{alloc_expr, alloc_missing, push_item, waiting_count};
 
@@ -53,15 +55,13 @@ pub fn expr(store: &mut [u8], depth: u32, n: NodeId) -> ExprId
         return missing_node(store, n);
     };
     match kind {
-        SyntaxKind::Apply => pair(store, d, n, kind),
+        SyntaxKind::Apply | SyntaxKind::With | SyntaxKind::Assert => pair(store, d, n, kind),
         SyntaxKind::IfElse => cond(store, d, n),
         SyntaxKind::Select => get(store, d, n),
-        SyntaxKind::With => pair(store, d, n, kind),
         SyntaxKind::HasAttr => has(store, d, n),
         SyntaxKind::Str => str(store, d, n),
         SyntaxKind::Path => path(store, d, n),
-        SyntaxKind::Float => literal(store, n, kind),
-        SyntaxKind::Integer => literal(store, n, kind),
+        SyntaxKind::Float | SyntaxKind::Integer => literal(store, n, kind),
         SyntaxKind::Uri => uri(store, n),
         SyntaxKind::Lambda => lambda(store, d, n),
         SyntaxKind::LetIn => let_in(store, d, n),
@@ -70,7 +70,6 @@ pub fn expr(store: &mut [u8], depth: u32, n: NodeId) -> ExprId
         SyntaxKind::AttrSet => set(store, d, n),
         SyntaxKind::UnaryOp => unop(store, d, n),
         SyntaxKind::Ident => ident(store, n),
-        SyntaxKind::Assert => pair(store, d, n, kind),
         SyntaxKind::Paren | SyntaxKind::Root => {
             let place = kid(store, n, 0);
             opt(store, d, place)
@@ -107,7 +106,12 @@ fn pair(store: &mut [u8], depth: u32, n: NodeId, kind: SyntaxKind) -> ExprId
     requires { Long store.old }
     ensures { Lowering 0 (below n.0) own_node (λ nodes. lowering.pair nodes (lower_at depth nodes) (merge_at depth nodes) (form_of (number_of_syntax kind)) n.0) store.old result.0 store.new }
 {
-    let Children { first, second, pointer: p, .. } = children_of(store, n);
+    let Children {
+        first,
+        second,
+        pointer: p,
+        ..
+    } = children_of(store, n);
     let a = opt(store, depth, first);
     let b = opt(store, depth, second);
     alloc_lone(store, pair_form(kind, a, b), p)
@@ -119,7 +123,12 @@ fn cond(store: &mut [u8], depth: u32, n: NodeId) -> ExprId
     requires { Long store.old }
     ensures { Lowering 0 (below n.0) own_node (λ nodes. lower_if_else nodes (lower_at depth nodes) (merge_at depth nodes) n.0) store.old result.0 store.new }
 {
-    let Children { first, second, third, pointer: p } = children_of(store, n);
+    let Children {
+        first,
+        second,
+        third,
+        pointer: p,
+    } = children_of(store, n);
     let cond = opt(store, depth, first);
     let then_body = opt(store, depth, second);
     let else_body = opt(store, depth, third);
@@ -133,7 +142,12 @@ fn get(store: &mut [u8], depth: u32, n: NodeId) -> ExprId
     ensures { Lowering 0 (below n.0) own_node (λ nodes. lower_select nodes (lower_at depth nodes) (merge_at depth nodes) n.0) store.old result.0 store.new }
 {
     let base = waiting_count(store);
-    let Children { first, second, third, pointer: p } = children_of(store, n);
+    let Children {
+        first,
+        second,
+        third,
+        pointer: p,
+    } = children_of(store, n);
     let set = opt(store, depth, first);
     attrs(store, depth, second);
     let default_expr = there(store, depth, third);
@@ -147,7 +161,12 @@ fn has(store: &mut [u8], depth: u32, n: NodeId) -> ExprId
     ensures { Lowering 0 (below n.0) own_node (λ nodes. lower_has_attr nodes (lower_at depth nodes) (merge_at depth nodes) n.0) store.old result.0 store.new }
 {
     let base = waiting_count(store);
-    let Children { first, second, pointer: p, .. } = children_of(store, n);
+    let Children {
+        first,
+        second,
+        pointer: p,
+        ..
+    } = children_of(store, n);
     let set = opt(store, depth, first);
     attrs(store, depth, second);
     alloc_expr(store, Expr::HasAttr(set), base, p)
@@ -238,13 +257,14 @@ fn attr(store: &mut [u8], depth: u32, n: NodeId) -> ExprId
     requires { Long store.old }
     ensures { Lowering 0 (below n.0) one_expr (λ nodes. lower_attr nodes (lower_at depth nodes) (merge_at depth nodes) n.0) store.old result.0 store.new }
 {
-    match syntax_kind(store, n) {
-        Some(SyntaxKind::Dynamic) => {
-            let place = kid(store, n, 0);
-            opt(store, depth, place)
-        }
-        Some(SyntaxKind::Str) => str(store, depth, n),
-        _ => attr_name(store, n),
+    let kind = syntax_kind(store, n);
+    if kind == Some(SyntaxKind::Dynamic) {
+        let place = kid(store, n, 0);
+        opt(store, depth, place)
+    } else if kind == Some(SyntaxKind::Str) {
+        str(store, depth, n)
+    } else {
+        attr_name(store, n)
     }
 }
 
@@ -255,8 +275,17 @@ fn lambda(store: &mut [u8], depth: u32, n: NodeId) -> ExprId
     ensures { Lowering 0 (below n.0) own_node (λ nodes. lower_lambda nodes (lower_at depth nodes) (merge_at depth nodes) n.0) store.old result.0 store.new }
 {
     let base = waiting_count(store);
-    let Children { first, second, pointer: p, .. } = children_of(store, n);
-    let Param { ident, owner, pattern } = param_of(store, first);
+    let Children {
+        first,
+        second,
+        pointer: p,
+        ..
+    } = children_of(store, n);
+    let Param {
+        ident,
+        owner,
+        pattern,
+    } = param_of(store, first);
     let name = lower_name(store, NameKind::Param, ident);
     fields(store, depth, owner);
     let body = opt(store, depth, second);
@@ -298,7 +327,11 @@ fn let_in(store: &mut [u8], depth: u32, n: NodeId) -> ExprId
     ensures { Lowering 0 (below n.0) own_node (λ nodes. lower_let_in nodes (lower_at depth nodes) (merge_at depth nodes) n.0) store.old result.0 store.new }
 {
     let base = waiting_count(store);
-    let Children { first, pointer: p, .. } = children_of(store, n);
+    let Children {
+        first,
+        pointer: p,
+        ..
+    } = children_of(store, n);
     binds(store, depth, NameKind::LetIn, n);
     let body = opt(store, depth, first);
     alloc_expr(store, Expr::LetIn(body), base, p)
@@ -327,7 +360,12 @@ fn binop(store: &mut [u8], depth: u32, n: NodeId) -> ExprId
     requires { Long store.old }
     ensures { Lowering 0 (below n.0) own_node (λ nodes. lower_bin_op nodes (lower_at depth nodes) (merge_at depth nodes) n.0) store.old result.0 store.new }
 {
-    let Children { first, second, pointer: p, .. } = children_of(store, n);
+    let Children {
+        first,
+        second,
+        pointer: p,
+        ..
+    } = children_of(store, n);
     let op = node_flag(store, n);
     let lhs = opt(store, depth, first);
     if op == 0 {
@@ -357,7 +395,11 @@ fn unop(store: &mut [u8], depth: u32, n: NodeId) -> ExprId
     requires { Long store.old }
     ensures { Lowering 0 (below n.0) own_node (λ nodes. lower_unary_op nodes (lower_at depth nodes) (merge_at depth nodes) n.0) store.old result.0 store.new }
 {
-    let Children { first, pointer: p, .. } = children_of(store, n);
+    let Children {
+        first,
+        pointer: p,
+        ..
+    } = children_of(store, n);
     let op = node_flag(store, n);
     if op == 0 {
         return alloc_missing(store);

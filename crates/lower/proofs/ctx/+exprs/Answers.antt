@@ -2,62 +2,30 @@
 use Rattle.lower.proofs.BindingLaws.{let_lowers, set_lowers}
 use Rattle.lower.proofs.ExprLaws.{binop_missing, binop_lowers, cond_lowers, opt_node, opt_absent, pair_lowers, there_node, there_absent, unop_missing, unop_lowers}
 use Rattle.lower.proofs.InnerLaws.{desugar_lowers, nest_lowers}
-use Rattle.lower.proofs.KindLaws.{too_deep, apply_arm, cond_arm, select_arm, with_arm, has_arm, string_arm, path_arm, float_arm, integer_arm, uri_arm, lambda_arm, let_arm, list_arm, binop_arm, paren_arm, set_arm, unop_arm, ident_arm, assert_arm, root_arm, missing_arm}
+use Rattle.lower.proofs.KindLaws.{too_deep, none_arm, pair_arm, cond_arm, select_arm, has_arm, string_arm, path_arm, literal_arm, uri_arm, lambda_arm, let_arm, list_arm, binop_arm, inside_arm, set_arm, unop_arm, ident_arm, missing_arm}
 use Rattle.lower.proofs.LambdaLaws.{field_lowers, lambda_lowers}
-use Rattle.lower.proofs.LeafLaws.{float_lowers, integer_lowers, ident_lowers, name_lowers}
+use Rattle.lower.proofs.LeafLaws.{ident_lowers, name_lowers}
 use Rattle.lower.proofs.ListedLaws.{attr_dynamic, attr_string, attr_ident, select_lowers, has_lowers, part_text, part_expr, path_parts, path_literal, string_literal, string_parts}
-use Rattle.lower.proofs.LoopLaws.{attrpath_start, attrpath_turn, entries_start, fields_start, inherits_start, inherits_end, list_start, list_turn, list_end, parts_start}
-use Rattle.lower.proofs.Loops.{gathering_end, merging_turn, merging_end, gathering_turn}
+use Rattle.lower.proofs.LoopLaws.{attrpath_absent, attrpath_start, attrpath_end, attr_waits, entries_start, fields_absent, fields_start, fields_end, inherits_start, inherits_end, list_start, list_taken, item_waits, parts_start}
+use Rattle.lower.proofs.Loops.{gathering_turn, gathering_skip, gathering_end, merging_turn, merging_skip, merging_end}
 use Rattle.lower.proofs.MergeLaws.{entry_inherit, entry_attrpath, inherit_static, inherit_dynamic, bindings_none, bindings_there, keyed_merged, keyed_other, value_static, value_dynamic, nested_last, nested_before, dynamic_pushed, attrpath_none, attrpath_there, source_there, source_none, step_static, step_dynamic}
-use Rattle.lower.proofs.ReadLaws.{in_end, in_first, next_of_node}
+use Rattle.lower.proofs.ReadLaws.{in_first}
 use Rattle.lower.specs.Reads.{NextIn}
 use Rattle.module.specs.Literals.{Valid}
 use Rattle.rows.specs.Decoded.{ValidExpr}
 use borrow.Author.Rules.{rules}
-use borrow.Author.Tests.{eq-eqb}
-use mathlib.Core.Path.{◌∙◌, sym}
+use mathlib.Core.Path.{◌∙◌, refl, ap}
 use native.Mathlib.Omega.{arith}
+use Rattle.intake.proofs.KindLaws.{of_kind, if_kind, if_other}
+use Rattle.module.specs.SyntaxKinds.{number_of_syntax}
+use Rattle.module.specs.declared.syntax_kind.SyntaxKind.TheVariants as code_kind
+use Rattle.std.specs.Prelude.{Some}
+use Rattle.lower.proofs.ctx.+exprs.Goals.{attrs-in-Some-kid, attrs-in_default-kid, entries-in-Some, entries-in_default, fields-in-Some-kid, fields-in_default-kid, inherit-in-Some, inherit-in_default, list-in-Some, list-in_default, parts-in-Some, parts-in_default}
 use Rattle.lower.proofs.ctx.+exprs.Goals as goal
 
 -- ---- attr
 
-pub attr-node_kind-kind-requires : goal.attr-node_kind-kind-requires
-attr-node_kind-kind-requires t c = omega (arith, c.requires)
-
-pub attr-kid-place-requires : goal.attr-kid-place-requires
-attr-kid-place-requires t c = omega (arith, c.requires)
-
-pub attr-opt-requires : goal.attr-opt-requires
-attr-opt-requires t c = (omega (arith, c.decreases), omega (arith, c.requires))
-
-pub attr-returns-then-kind-eq24 : goal.attr-returns-then-kind-eq24
-attr-returns-then-kind-eq24 t c = attr_dynamic _ _ _ c.node_kind-kind.ensures _ c.if-kind-eq24.true c.kid-place.ensures c.opt.ensures
-
-pub attr-str-requires : goal.attr-str-requires
-attr-str-requires t c = (omega (arith, c.decreases), omega (arith, c.requires))
-
-pub attr-returns-then-kind-eq6 : goal.attr-returns-then-kind-eq6
-attr-returns-then-kind-eq6 t c = attr_string _ _ _ c.node_kind-kind.ensures c.if-kind-eq24.false c.if-kind-eq6.true c.str.ensures
-
-pub attr-attr_name-requires : goal.attr-attr_name-requires
-attr-attr_name-requires t c = omega (arith, c.requires)
-
-pub attr-returns : goal.attr-returns
-attr-returns t c = attr_ident _ _ _ c.node_kind-kind.ensures c.if-kind-eq24.false c.if-kind-eq6.false c.attr_name.ensures
-
 -- ---- attrs
-
-pub attrs-loop-a-init : goal.attrs-loop-a-init
-attrs-loop-a-init t c = attrpath_start _ _ _
-
-pub attrs-returns-in-None : goal.attrs-returns-in-None
-attrs-returns-in-None t c = gathering_end c.loop-a.invariant (in_end _ _ _ _ c.next_in.ensures c.in-None.is)
-
-pub attrs-loop-a-smaller : goal.attrs-loop-a-smaller
-attrs-loop-a-smaller t c = let a = in_first _ _ _ _ c.next_in.ensures _ _ c.in-Some.is in omega (arith, a.onward, a.inside)
-
-pub attrs-loop-a-preserved : goal.attrs-loop-a-preserved
-attrs-loop-a-preserved t c = attrpath_turn _ c.loop-a.invariant (in_first _ _ _ _ c.next_in.ensures _ _ c.in-Some.is) _ c.attr-e.ensures c.push_item.ensures
 
 -- ---- binds
 
@@ -87,8 +55,8 @@ binds-returns t c = desugar_lowers _ _ _ _ c.set_count-sets.ensures.0 c.entry_co
 
 -- ---- binop
 
-pub binop-children_of-at-requires : goal.binop-children_of-at-requires
-binop-children_of-at-requires t c = omega (arith, c.requires)
+pub binop-children_of-first-requires : goal.binop-children_of-first-requires
+binop-children_of-first-requires t c = omega (arith, c.requires)
 
 pub binop-node_flag-op-requires : goal.binop-node_flag-op-requires
 binop-node_flag-op-requires t c = omega (arith, c.requires)
@@ -100,7 +68,7 @@ pub binop-alloc_missing-requires : goal.binop-alloc_missing-requires
 binop-alloc_missing-requires t c = omega (arith, c.requires)
 
 pub binop-returns-then-op-eq0 : goal.binop-returns-then-op-eq0
-binop-returns-then-op-eq0 t c = binop_missing _ _ _ c.children_of-at.ensures _ _ c.node_flag-op.ensures c.opt-lhs.ensures c.if-op-eq0.true c.alloc_missing.ensures
+binop-returns-then-op-eq0 t c = binop_missing _ _ _ c.children_of-first.ensures _ _ c.node_flag-op.ensures c.opt-lhs.ensures c.if-op-eq0.true c.alloc_missing.ensures
 
 pub binop-opt-rhs-requires : goal.binop-opt-rhs-requires
 binop-opt-rhs-requires t c = (omega (arith, c.decreases), omega (arith, c.requires))
@@ -110,12 +78,12 @@ unfolding ValidExpr
 binop-alloc_lone-requires t c = (omega (arith, c.requires), tt)
 
 pub binop-returns : goal.binop-returns
-binop-returns t c = binop_lowers _ _ _ c.children_of-at.ensures _ _ _ c.node_flag-op.ensures c.opt-lhs.ensures c.if-op-eq0.false c.opt-rhs.ensures c.alloc_lone.ensures
+binop-returns t c = binop_lowers _ _ _ c.children_of-first.ensures _ _ _ c.node_flag-op.ensures c.opt-lhs.ensures c.if-op-eq0.false c.opt-rhs.ensures c.alloc_lone.ensures
 
 -- ---- cond
 
-pub cond-children_of-at-requires : goal.cond-children_of-at-requires
-cond-children_of-at-requires t c = omega (arith, c.requires)
+pub cond-children_of-first-requires : goal.cond-children_of-first-requires
+cond-children_of-first-requires t c = omega (arith, c.requires)
 
 pub cond-opt-cond-requires : goal.cond-opt-cond-requires
 cond-opt-cond-requires t c = (omega (arith, c.decreases), omega (arith, c.requires))
@@ -131,41 +99,14 @@ unfolding ValidExpr
 cond-alloc_lone-requires t c = (omega (arith, c.requires), tt)
 
 pub cond-returns : goal.cond-returns
-cond-returns t c = cond_lowers _ _ _ c.children_of-at.ensures _ _ _ c.opt-cond.ensures c.opt-then_body.ensures c.opt-else_body.ensures c.alloc_lone.ensures
+cond-returns t c = cond_lowers _ _ _ c.children_of-first.ensures _ _ _ c.opt-cond.ensures c.opt-then_body.ensures c.opt-else_body.ensures c.alloc_lone.ensures
 
 -- ---- entries
 
 pub entries-first_entry-i-requires : goal.entries-first_entry-i-requires
 entries-first_entry-i-requires t c = omega (arith, c.requires)
 
-pub entries-loop-e-init : goal.entries-loop-e-init
-entries-loop-e-init t c = entries_start _ _ _ _ _ c.first_entry-i.ensures
-
-pub entries-returns-in-None : goal.entries-returns-in-None
-entries-returns-in-None t c = merging_end c.loop-e.invariant (in_end _ _ _ _ (next_of_node _ _ _ _ c.next_item.ensures) c.in-None.is)
-
-pub entries-loop-e-smaller : goal.entries-loop-e-smaller
-entries-loop-e-smaller t c = let a = in_first _ _ _ _ (next_of_node _ _ _ _ c.next_item.ensures) _ _ c.in-Some.is in omega (arith, a.onward, a.inside)
-
-pub entries-loop-e-preserved : goal.entries-loop-e-preserved
-entries-loop-e-preserved t c = merging_turn c.loop-e.invariant (in_first _ _ _ _ (next_of_node _ _ _ _ c.next_item.ensures) _ _ c.in-Some.is) c.entry.ensures
-
 -- ---- entry
-
-pub entry-node_kind-requires : goal.entry-node_kind-requires
-entry-node_kind-requires t c = omega (arith, c.requires)
-
-pub entry-inherit-requires : goal.entry-inherit-requires
-entry-inherit-requires t c = (omega (arith, c.decreases), omega (arith, c.requires))
-
-pub entry-put-requires : goal.entry-put-requires
-entry-put-requires t c = (omega (arith, c.decreases), omega (arith, c.requires))
-
-pub entry-returns-then-node_kind-eq26 : goal.entry-returns-then-node_kind-eq26
-entry-returns-then-node_kind-eq26 t c = entry_inherit _ _ _ _ c.node_kind.ensures c.if-node_kind-eq26.true c.inherit.ensures
-
-pub entry-returns-else-node_kind-eq26 : goal.entry-returns-else-node_kind-eq26
-entry-returns-else-node_kind-eq26 t c = entry_attrpath _ _ _ _ c.node_kind.ensures c.if-node_kind-eq26.false c.put.ensures
 
 -- ---- expr
 
@@ -178,145 +119,10 @@ expr-returns-then-depth-eq0 t c = too_deep _ _ c.if-depth-eq0.true c.alloc_missi
 pub expr-overflow_sub-d : goal.expr-overflow_sub-d
 expr-overflow_sub-d t c = omega arith
 
-pub expr-node_kind-requires : goal.expr-node_kind-requires
-expr-node_kind-requires t c = omega (arith, c.requires)
-
-pub expr-pair-requires : goal.expr-pair-requires
-expr-pair-requires t c = (omega (arith, c.decreases), omega (arith, c.requires))
-
-pub expr-cond-requires : goal.expr-cond-requires
-expr-cond-requires t c = (omega (arith, c.decreases), omega (arith, c.requires))
-
-pub expr-get-requires : goal.expr-get-requires
-expr-get-requires t c = (omega (arith, c.decreases), omega (arith, c.requires))
-
-pub expr-pair-requires-in-4 : goal.expr-pair-requires-in-4
-expr-pair-requires-in-4 t c = (omega (arith, c.decreases), omega (arith, c.requires))
-
-pub expr-has-requires : goal.expr-has-requires
-expr-has-requires t c = (omega (arith, c.decreases), omega (arith, c.requires))
-
-pub expr-str-requires : goal.expr-str-requires
-expr-str-requires t c = (omega (arith, c.decreases), omega (arith, c.requires))
-
-pub expr-path-requires : goal.expr-path-requires
-expr-path-requires t c = (omega (arith, c.decreases), omega (arith, c.requires))
-
-pub expr-literal-requires : goal.expr-literal-requires
-expr-literal-requires t c = omega (arith, c.requires)
-
-pub expr-literal-requires-in-9 : goal.expr-literal-requires-in-9
-expr-literal-requires-in-9 t c = omega (arith, c.requires)
-
-pub expr-uri-requires : goal.expr-uri-requires
-expr-uri-requires t c = omega (arith, c.requires)
-
-pub expr-lambda-requires : goal.expr-lambda-requires
-expr-lambda-requires t c = (omega (arith, c.decreases), omega (arith, c.requires))
-
-pub expr-let_in-requires : goal.expr-let_in-requires
-expr-let_in-requires t c = (omega (arith, c.decreases), (omega (arith, c.requires), sym c.node_kind.ensures ∙ c.in-12.is))
-
-pub expr-list-requires : goal.expr-list-requires
-expr-list-requires t c = (omega (arith, c.decreases), omega (arith, c.requires))
-
-pub expr-binop-requires : goal.expr-binop-requires
-expr-binop-requires t c = (omega (arith, c.decreases), omega (arith, c.requires))
-
-pub expr-kid-place-requires : goal.expr-kid-place-requires
-expr-kid-place-requires t c = omega (arith, c.requires)
-
-pub expr-opt-requires : goal.expr-opt-requires
-expr-opt-requires t c = (omega (arith, c.decreases), omega (arith, c.requires))
-
-pub expr-set-requires : goal.expr-set-requires
-expr-set-requires t c = (omega (arith, c.decreases), omega (arith, c.requires))
-
-pub expr-unop-requires : goal.expr-unop-requires
-expr-unop-requires t c = (omega (arith, c.decreases), omega (arith, c.requires))
-
-pub expr-ident-requires : goal.expr-ident-requires
-expr-ident-requires t c = omega (arith, c.requires)
-
-pub expr-pair-requires-in-19 : goal.expr-pair-requires-in-19
-expr-pair-requires-in-19 t c = (omega (arith, c.decreases), omega (arith, c.requires))
-
-pub expr-kid-place-requires-in-21 : goal.expr-kid-place-requires-in-21
-expr-kid-place-requires-in-21 t c = omega (arith, c.requires)
-
-pub expr-opt-requires-in-21 : goal.expr-opt-requires-in-21
-expr-opt-requires-in-21 t c = (omega (arith, c.decreases), omega (arith, c.requires))
-
-pub expr-missing_node-requires : goal.expr-missing_node-requires
-expr-missing_node-requires t c = omega (arith, c.requires)
-
-pub expr-returns-in-1 : goal.expr-returns-in-1
-expr-returns-in-1 t c = apply_arm _ _ _ c.if-depth-eq0.false c.node_kind.ensures c.in-1.is c.pair.ensures
-
-pub expr-returns-in-2 : goal.expr-returns-in-2
-expr-returns-in-2 t c = cond_arm _ _ _ c.if-depth-eq0.false c.node_kind.ensures c.in-2.is c.cond.ensures
-
-pub expr-returns-in-3 : goal.expr-returns-in-3
-expr-returns-in-3 t c = select_arm _ _ _ c.if-depth-eq0.false c.node_kind.ensures c.in-3.is c.get.ensures
-
-pub expr-returns-in-4 : goal.expr-returns-in-4
-expr-returns-in-4 t c = with_arm _ _ _ c.if-depth-eq0.false c.node_kind.ensures c.in-4.is c.pair-in-4.ensures
-
-pub expr-returns-in-5 : goal.expr-returns-in-5
-expr-returns-in-5 t c = has_arm _ _ _ c.if-depth-eq0.false c.node_kind.ensures c.in-5.is c.has.ensures
-
-pub expr-returns-in-6 : goal.expr-returns-in-6
-expr-returns-in-6 t c = string_arm _ _ _ c.if-depth-eq0.false c.node_kind.ensures c.in-6.is c.str.ensures
-
-pub expr-returns-in-7 : goal.expr-returns-in-7
-expr-returns-in-7 t c = path_arm _ _ _ c.if-depth-eq0.false c.node_kind.ensures c.in-7.is c.path.ensures
-
-pub expr-returns-in-8 : goal.expr-returns-in-8
-expr-returns-in-8 t c = float_arm _ _ _ c.if-depth-eq0.false c.node_kind.ensures c.in-8.is (float_lowers _ _ (eq-eqb _ 8 (sym c.node_kind.ensures ∙ c.in-8.is)) c.literal.ensures)
-
-pub expr-returns-in-9 : goal.expr-returns-in-9
-expr-returns-in-9 t c = integer_arm _ _ _ c.if-depth-eq0.false c.node_kind.ensures c.in-9.is (integer_lowers _ _ c.literal-in-9.ensures)
-
-pub expr-returns-in-10 : goal.expr-returns-in-10
-expr-returns-in-10 t c = uri_arm _ _ _ c.if-depth-eq0.false c.node_kind.ensures c.in-10.is c.uri.ensures
-
-pub expr-returns-in-11 : goal.expr-returns-in-11
-expr-returns-in-11 t c = lambda_arm _ _ _ c.if-depth-eq0.false c.node_kind.ensures c.in-11.is c.lambda.ensures
-
-pub expr-returns-in-12 : goal.expr-returns-in-12
-expr-returns-in-12 t c = let_arm _ _ _ c.if-depth-eq0.false c.node_kind.ensures c.in-12.is c.let_in.ensures
-
-pub expr-returns-in-13 : goal.expr-returns-in-13
-expr-returns-in-13 t c = list_arm _ _ _ c.if-depth-eq0.false c.node_kind.ensures c.in-13.is c.list.ensures
-
-pub expr-returns-in-14 : goal.expr-returns-in-14
-expr-returns-in-14 t c = binop_arm _ _ _ c.if-depth-eq0.false c.node_kind.ensures c.in-14.is c.binop.ensures
-
-pub expr-returns-in-15 : goal.expr-returns-in-15
-expr-returns-in-15 t c = paren_arm _ _ _ c.if-depth-eq0.false c.node_kind.ensures _ c.in-15.is c.kid-place.ensures c.opt.ensures
-
-pub expr-returns-in-16 : goal.expr-returns-in-16
-expr-returns-in-16 t c = set_arm _ _ _ c.if-depth-eq0.false c.node_kind.ensures c.in-16.is c.set.ensures
-
-pub expr-returns-in-17 : goal.expr-returns-in-17
-expr-returns-in-17 t c = unop_arm _ _ _ c.if-depth-eq0.false c.node_kind.ensures c.in-17.is c.unop.ensures
-
-pub expr-returns-in-18 : goal.expr-returns-in-18
-expr-returns-in-18 t c = ident_arm _ _ _ c.if-depth-eq0.false c.node_kind.ensures c.in-18.is (ident_lowers _ _ c.ident.ensures)
-
-pub expr-returns-in-19 : goal.expr-returns-in-19
-expr-returns-in-19 t c = assert_arm _ _ _ c.if-depth-eq0.false c.node_kind.ensures c.in-19.is c.pair-in-19.ensures
-
-pub expr-returns-in-21 : goal.expr-returns-in-21
-expr-returns-in-21 t c = root_arm _ _ _ c.if-depth-eq0.false c.node_kind.ensures _ c.in-21.is c.kid-place-in-21.ensures c.opt-in-21.ensures
-
-pub expr-returns-in_default : goal.expr-returns-in_default
-expr-returns-in_default t c = missing_arm _ _ _ c.if-depth-eq0.false c.node_kind.ensures c.in_default.in_default-own.rest c.missing_node.ensures
-
 -- ---- field
 
-pub field-children_of-at-requires : goal.field-children_of-at-requires
-field-children_of-at-requires t c = omega (arith, c.requires)
+pub field-children_of-first-requires : goal.field-children_of-first-requires
+field-children_of-first-requires t c = omega (arith, c.requires)
 
 pub field-lower_name-x-requires : goal.field-lower_name-x-requires
 field-lower_name-x-requires t c = omega (arith, c.requires)
@@ -328,29 +134,17 @@ pub field-push_item-requires : goal.field-push_item-requires
 field-push_item-requires t c = omega (arith, c.requires)
 
 pub field-returns : goal.field-returns
-field-returns t c = field_lowers _ _ _ _ _ c.children_of-at.ensures (name_lowers _ _ _ c.lower_name-x.ensures) c.there-e.ensures c.push_item.ensures
+field-returns t c = field_lowers _ _ _ _ _ c.children_of-first.ensures (name_lowers _ _ _ c.lower_name-x.ensures) c.there-e.ensures c.push_item.ensures
 
 -- ---- fields
-
-pub fields-loop-f-init : goal.fields-loop-f-init
-fields-loop-f-init t c = fields_start _ _ _
-
-pub fields-returns-in-None : goal.fields-returns-in-None
-fields-returns-in-None t c = gathering_end c.loop-f.invariant (in_end _ _ _ _ c.next_in.ensures c.in-None.is)
-
-pub fields-loop-f-smaller : goal.fields-loop-f-smaller
-fields-loop-f-smaller t c = let a = in_first _ _ _ _ c.next_in.ensures _ _ c.in-Some.is in omega (arith, a.onward, a.inside)
-
-pub fields-loop-f-preserved : goal.fields-loop-f-preserved
-fields-loop-f-preserved t c = gathering_turn c.loop-f.invariant (in_first _ _ _ _ c.next_in.ensures _ _ c.in-Some.is) c.field.ensures
 
 -- ---- get
 
 pub get-waiting_count-base-requires : goal.get-waiting_count-base-requires
 get-waiting_count-base-requires t c = omega (arith, c.requires)
 
-pub get-children_of-at-requires : goal.get-children_of-at-requires
-get-children_of-at-requires t c = omega (arith, c.requires)
+pub get-children_of-first-requires : goal.get-children_of-first-requires
+get-children_of-first-requires t c = omega (arith, c.requires)
 
 pub get-opt-set-requires : goal.get-opt-set-requires
 get-opt-set-requires t c = (omega (arith, c.decreases), omega (arith, c.requires))
@@ -366,15 +160,15 @@ unfolding ValidExpr
 get-alloc_expr-requires t c = (omega (arith, c.requires), tt)
 
 pub get-returns : goal.get-returns
-get-returns t c = select_lowers _ _ _ _ c.waiting_count-base.ensures c.children_of-at.ensures _ c.opt-set.ensures c.attrs.ensures _ c.there-default_expr.ensures c.alloc_expr.ensures
+get-returns t c = select_lowers _ _ _ _ c.waiting_count-base.ensures c.children_of-first.ensures _ c.opt-set.ensures c.attrs.ensures _ c.there-default_expr.ensures c.alloc_expr.ensures
 
 -- ---- has
 
 pub has-waiting_count-base-requires : goal.has-waiting_count-base-requires
 has-waiting_count-base-requires t c = omega (arith, c.requires)
 
-pub has-children_of-at-requires : goal.has-children_of-at-requires
-has-children_of-at-requires t c = omega (arith, c.requires)
+pub has-children_of-first-requires : goal.has-children_of-first-requires
+has-children_of-first-requires t c = omega (arith, c.requires)
 
 pub has-opt-set-requires : goal.has-opt-set-requires
 has-opt-set-requires t c = (omega (arith, c.decreases), omega (arith, c.requires))
@@ -387,7 +181,7 @@ unfolding ValidExpr
 has-alloc_expr-requires t c = (omega (arith, c.requires), tt)
 
 pub has-returns : goal.has-returns
-has-returns t c = has_lowers _ _ _ _ c.waiting_count-base.ensures c.children_of-at.ensures _ c.opt-set.ensures c.attrs.ensures c.alloc_expr.ensures
+has-returns t c = has_lowers _ _ _ _ c.waiting_count-base.ensures c.children_of-first.ensures _ c.opt-set.ensures c.attrs.ensures c.alloc_expr.ensures
 
 -- ---- heir
 
@@ -419,18 +213,6 @@ inherit-kid-place-requires t c = omega (arith, c.requires)
 
 pub inherit-src-from_set-requires : goal.inherit-src-from_set-requires
 inherit-src-from_set-requires t c = (omega (arith, c.decreases), omega (arith, c.requires))
-
-pub inherit-loop-a-init : goal.inherit-loop-a-init
-inherit-loop-a-init t c = inherits_start _ _ _ _ _
-
-pub inherit-returns-in-None : goal.inherit-returns-in-None
-inherit-returns-in-None t c = inherits_end _ _ _ _ _ c.kid-place.ensures c.src-from_set.ensures c.loop-a.invariant (in_end _ _ _ _ (next_of_node _ _ _ _ c.next_item.ensures) c.in-None.is)
-
-pub inherit-loop-a-smaller : goal.inherit-loop-a-smaller
-inherit-loop-a-smaller t c = let a = in_first _ _ _ _ (next_of_node _ _ _ _ c.next_item.ensures) _ _ c.in-Some.is in omega (arith, a.onward, a.inside)
-
-pub inherit-loop-a-preserved : goal.inherit-loop-a-preserved
-inherit-loop-a-preserved t c = merging_turn c.loop-a.invariant (in_first _ _ _ _ (next_of_node _ _ _ _ c.next_item.ensures) _ _ c.in-Some.is) c.heir.ensures
 
 -- ---- join
 
@@ -474,11 +256,11 @@ keyed-returns-in-None t c = keyed_other _ _ _ _ _ _ _ _ c.into_set.ensures c.in-
 pub lambda-waiting_count-base-requires : goal.lambda-waiting_count-base-requires
 lambda-waiting_count-base-requires t c = omega (arith, c.requires)
 
-pub lambda-children_of-at-requires : goal.lambda-children_of-at-requires
-lambda-children_of-at-requires t c = omega (arith, c.requires)
+pub lambda-children_of-first-requires : goal.lambda-children_of-first-requires
+lambda-children_of-first-requires t c = omega (arith, c.requires)
 
-pub lambda-param_of-x-requires : goal.lambda-param_of-x-requires
-lambda-param_of-x-requires t c = omega (arith, c.requires)
+pub lambda-param_of-ident-requires : goal.lambda-param_of-ident-requires
+lambda-param_of-ident-requires t c = omega (arith, c.requires)
 
 pub lambda-lower_name-name-requires : goal.lambda-lower_name-name-requires
 lambda-lower_name-name-requires t c = omega (arith, c.requires)
@@ -494,7 +276,7 @@ unfolding ValidExpr
 lambda-alloc_expr-requires t c = (omega (arith, c.requires), tt)
 
 pub lambda-returns : goal.lambda-returns
-lambda-returns t c = lambda_lowers _ _ _ _ _ _ _ c.waiting_count-base.ensures c.children_of-at.ensures c.param_of-x.ensures (name_lowers _ _ _ c.lower_name-name.ensures) c.fields.ensures c.opt-body.ensures c.alloc_expr.ensures
+lambda-returns t c = lambda_lowers _ _ _ _ _ _ _ c.waiting_count-base.ensures c.children_of-first.ensures c.param_of-ident.ensures (name_lowers _ _ _ c.lower_name-name.ensures) c.fields.ensures c.opt-body.ensures c.alloc_expr.ensures
 
 -- ---- last
 
@@ -518,8 +300,8 @@ last-returns-in-Dynamic t c = value_dynamic _ _ _ _ c.attr_kind.ensures _ _ c.in
 pub let_in-waiting_count-base-requires : goal.let_in-waiting_count-base-requires
 let_in-waiting_count-base-requires t c = omega (arith, c.requires.0)
 
-pub let_in-children_of-at-requires : goal.let_in-children_of-at-requires
-let_in-children_of-at-requires t c = omega (arith, c.requires.0)
+pub let_in-children_of-first-requires : goal.let_in-children_of-first-requires
+let_in-children_of-first-requires t c = omega (arith, c.requires.0)
 
 pub let_in-binds-requires : goal.let_in-binds-requires
 let_in-binds-requires t c = (omega (arith, c.decreases), omega (arith, c.requires.0))
@@ -532,7 +314,7 @@ unfolding ValidExpr
 let_in-alloc_expr-requires t c = (omega (arith, c.requires.0), tt)
 
 pub let_in-returns : goal.let_in-returns
-let_in-returns t c = let_lowers _ _ _ _ _ c.requires.1 c.waiting_count-base.ensures c.children_of-at.ensures c.binds.ensures c.opt-body.ensures c.alloc_expr.ensures
+let_in-returns t c = let_lowers _ _ _ _ _ c.requires.1 c.waiting_count-base.ensures c.children_of-first.ensures c.binds.ensures c.opt-body.ensures c.alloc_expr.ensures
 
 -- ---- list
 
@@ -542,21 +324,9 @@ list-waiting_count-base-requires t c = omega (arith, c.requires)
 pub list-node_pointer-p-requires : goal.list-node_pointer-p-requires
 list-node_pointer-p-requires t c = omega (arith, c.requires)
 
-pub list-loop-store-init : goal.list-loop-store-init
-list-loop-store-init t c = list_start _ _ _
-
 pub list-alloc_expr-requires : goal.list-alloc_expr-requires
 unfolding ValidExpr
 list-alloc_expr-requires t c = search rules
-
-pub list-returns-in-None : goal.list-returns-in-None
-list-returns-in-None t c = list_end _ _ _ c.loop-store.invariant c.waiting_count-base.ensures c.node_pointer-p.ensures (in_end _ _ _ _ (next_of_node _ _ _ _ c.next_item.ensures) c.in-None.is) c.alloc_expr.ensures
-
-pub list-loop-store-smaller : goal.list-loop-store-smaller
-list-loop-store-smaller t c = let a = in_first _ _ _ _ (next_of_node _ _ _ _ c.next_item.ensures) _ _ c.in-Some.is in omega (arith, a.onward, a.inside)
-
-pub list-loop-store-preserved : goal.list-loop-store-preserved
-list-loop-store-preserved t c = list_turn _ c.loop-store.invariant (in_first _ _ _ _ (next_of_node _ _ _ _ c.next_item.ensures) _ _ c.in-Some.is) _ c.expr-e.ensures c.push_item.ensures
 
 -- ---- nest
 
@@ -616,8 +386,8 @@ opt-returns-in-None t c = opt_absent _ c.in-None.is c.alloc_missing.ensures
 
 -- ---- pair
 
-pub pair-children_of-at-requires : goal.pair-children_of-at-requires
-pair-children_of-at-requires t c = omega (arith, c.requires)
+pub pair-children_of-first-requires : goal.pair-children_of-first-requires
+pair-children_of-first-requires t c = omega (arith, c.requires)
 
 pub pair-opt-a-requires : goal.pair-opt-a-requires
 pair-opt-a-requires t c = (omega (arith, c.decreases), omega (arith, c.requires))
@@ -629,47 +399,11 @@ pub pair-alloc_lone-requires : goal.pair-alloc_lone-requires
 pair-alloc_lone-requires t c = (omega (arith, c.requires), c.pair_form.ensures.valid)
 
 pub pair-returns : goal.pair-returns
-pair-returns t c = pair_lowers _ _ _ c.children_of-at.ensures _ _ c.opt-a.ensures c.opt-b.ensures c.pair_form.ensures c.alloc_lone.ensures
+pair-returns t c = pair_lowers _ _ _ c.children_of-first.ensures _ _ c.opt-a.ensures c.opt-b.ensures c.pair_form.ensures c.alloc_lone.ensures
 
 -- ---- part
 
-pub part-node_kind-requires : goal.part-node_kind-requires
-part-node_kind-requires t c = omega (arith, c.requires)
-
-pub part-node_text-t-requires : goal.part-node_text-t-requires
-part-node_text-t-requires t c = omega (arith, c.requires)
-
-pub part-push_item-requires : goal.part-push_item-requires
-part-push_item-requires t c = omega (arith, c.requires)
-
-pub part-returns-then-node_kind-eq32 : goal.part-returns-then-node_kind-eq32
-part-returns-then-node_kind-eq32 t c = part_text _ _ _ c.node_kind.ensures _ c.if-node_kind-eq32.true c.node_text-t.ensures c.push_item.ensures
-
-pub part-kid-place-requires : goal.part-kid-place-requires
-part-kid-place-requires t c = omega (arith, c.requires)
-
-pub part-opt-e-requires : goal.part-opt-e-requires
-part-opt-e-requires t c = (omega (arith, c.decreases), omega (arith, c.requires))
-
-pub part-push_item-requires-2 : goal.part-push_item-requires-2
-part-push_item-requires-2 t c = omega (arith, c.requires)
-
-pub part-returns : goal.part-returns
-part-returns t c = part_expr _ _ _ c.node_kind.ensures _ _ c.if-node_kind-eq32.false c.kid-place.ensures c.opt-e.ensures c.push_item-2.ensures
-
 -- ---- parts
-
-pub parts-loop-p-init : goal.parts-loop-p-init
-parts-loop-p-init t c = parts_start _ _ _
-
-pub parts-returns-in-None : goal.parts-returns-in-None
-parts-returns-in-None t c = gathering_end c.loop-p.invariant (in_end _ _ _ _ (next_of_node _ _ _ _ c.next_item.ensures) c.in-None.is)
-
-pub parts-loop-p-smaller : goal.parts-loop-p-smaller
-parts-loop-p-smaller t c = let a = in_first _ _ _ _ (next_of_node _ _ _ _ c.next_item.ensures) _ _ c.in-Some.is in omega (arith, a.onward, a.inside)
-
-pub parts-loop-p-preserved : goal.parts-loop-p-preserved
-parts-loop-p-preserved t c = gathering_turn c.loop-p.invariant (in_first _ _ _ _ (next_of_node _ _ _ _ c.next_item.ensures) _ _ c.in-Some.is) c.part.ensures
 
 -- ---- path
 
@@ -718,8 +452,8 @@ push-returns t c = dynamic_pushed _ _ _ _ c.opt-k.ensures c.opt-v.ensures c.add_
 
 -- ---- put
 
-pub put-children_of-at-requires : goal.put-children_of-at-requires
-put-children_of-at-requires t c = omega (arith, c.requires)
+pub put-children_of-first-requires : goal.put-children_of-first-requires
+put-children_of-first-requires t c = omega (arith, c.requires)
 
 pub put-next_in-requires : goal.put-next_in-requires
 put-next_in-requires t c = omega (arith, c.requires)
@@ -732,11 +466,11 @@ put-nested-requires t c = (omega (arith, c.decreases), omega (arith, c.requires)
 
 pub put-returns-in-None : goal.put-returns-in-None
 unfolding NextIn
-put-returns-in-None t c = attrpath_none _ _ _ _ c.children_of-at.ensures (rw c.in-None.is at c.next_in.ensures) c.push.ensures
+put-returns-in-None t c = attrpath_none _ _ _ _ c.children_of-first.ensures (rw c.in-None.is at c.next_in.ensures) c.push.ensures
 
 pub put-returns-in-Some : goal.put-returns-in-Some
 unfolding NextIn
-put-returns-in-Some t c = attrpath_there _ _ _ _ c.children_of-at.ensures (rw c.in-Some.is at c.next_in.ensures) c.nested.ensures
+put-returns-in-Some t c = attrpath_there _ _ _ _ c.children_of-first.ensures (rw c.in-Some.is at c.next_in.ensures) c.nested.ensures
 
 -- ---- set
 
@@ -763,21 +497,6 @@ pub set-returns : goal.set-returns
 set-returns t c = set_lowers _ _ _ _ _ _ c.waiting_count-base.ensures c.node_pointer-p.ensures c.name_kind_of_set-kind.ensures c.node_flag-is_rec.ensures c.binds.ensures c.alloc_expr.ensures
 
 -- ---- src
-
-pub src-kid-inner-requires : goal.src-kid-inner-requires
-src-kid-inner-requires t c = omega (arith, c.requires)
-
-pub src-opt-e-requires : goal.src-opt-e-requires
-src-opt-e-requires t c = (omega (arith, c.decreases), omega (arith, c.requires))
-
-pub src-add_source-requires : goal.src-add_source-requires
-src-add_source-requires t c = omega arith
-
-pub src-returns-in-Some : goal.src-returns-in-Some
-src-returns-in-Some t c = source_there _ _ _ _ _ _ c.in-Some.is c.kid-inner.ensures c.opt-e.ensures c.add_source.ensures
-
-pub src-returns-in-None : goal.src-returns-in-None
-src-returns-in-None t c = source_none _ _ _ c.in-None.is
 
 -- ---- step
 
@@ -838,19 +557,10 @@ str-returns-in-None t c = string_parts _ _ _ c.node_pointer-p.ensures _ c.get_st
 
 -- ---- there
 
-pub there-expr-requires : goal.there-expr-requires
-there-expr-requires t c = (omega (arith, c.decreases), omega (arith, c.requires))
-
-pub there-returns-in-Some : goal.there-returns-in-Some
-there-returns-in-Some t c = there_node _ _ _ c.in-Some.is c.expr.ensures
-
-pub there-returns-in-None : goal.there-returns-in-None
-there-returns-in-None t c = there_absent _ _ c.in-None.is
-
 -- ---- unop
 
-pub unop-children_of-at-requires : goal.unop-children_of-at-requires
-unop-children_of-at-requires t c = omega (arith, c.requires)
+pub unop-children_of-first-requires : goal.unop-children_of-first-requires
+unop-children_of-first-requires t c = omega (arith, c.requires)
 
 pub unop-node_flag-op-requires : goal.unop-node_flag-op-requires
 unop-node_flag-op-requires t c = omega (arith, c.requires)
@@ -869,4 +579,192 @@ unfolding ValidExpr
 unop-alloc_lone-requires t c = (omega (arith, c.requires), tt)
 
 pub unop-returns : goal.unop-returns
-unop-returns t c = unop_lowers _ _ _ c.children_of-at.ensures _ _ c.node_flag-op.ensures c.if-op-eq0.false c.opt-e.ensures c.alloc_lone.ensures
+unop-returns t c = unop_lowers _ _ _ c.children_of-first.ensures _ _ c.node_flag-op.ensures c.if-op-eq0.false c.opt-e.ensures c.alloc_lone.ensures
+
+-- ---- the loops, and what depends on a kind
+
+pub attr-returns-then-eq : goal.attr-returns-then-eq
+unfolding number_of_syntax
+attr-returns-then-eq t c = attr_dynamic _ _ _ refl _ (if_kind c.syntax_kind-kind.ensures code_kind.Dynamic c.eq.ensures c.if-eq.true) c.kid-place.ensures c.opt.ensures
+
+pub attr-returns-then-eq-2 : goal.attr-returns-then-eq-2
+unfolding number_of_syntax
+attr-returns-then-eq-2 t c = attr_string _ _ _ refl (if_other c.syntax_kind-kind.ensures code_kind.Dynamic c.eq.ensures c.if-eq.false) (if_kind c.syntax_kind-kind.ensures code_kind.Str c.eq-else-eq.ensures c.if-eq-2.true) c.str.ensures
+
+pub attr-returns-else-eq-2 : goal.attr-returns-else-eq-2
+unfolding number_of_syntax
+attr-returns-else-eq-2 t c = attr_ident _ _ _ refl (if_other c.syntax_kind-kind.ensures code_kind.Dynamic c.eq.ensures c.if-eq.false) (if_other c.syntax_kind-kind.ensures code_kind.Str c.eq-else-eq.ensures c.if-eq-2.false) c.attr_name.ensures
+
+pub attrs-returns-in_default : goal.attrs-returns-in_default
+attrs-returns-in_default t c = attrpath_absent _ _ c.in_default.is
+
+pub attrs-loop-i-init : goal.attrs-loop-i-init
+attrs-loop-i-init t c = attrpath_start _ _ _
+
+pub attrs-loop-i-preserved : goal.attrs-loop-i-preserved
+attrs-loop-i-preserved t c =
+    elim c.match-kid.branch [
+      | attrs-in-Some-kid w ↦ rw w.store-is (gathering_turn c.loop-i.invariant c.kid_count-i-end.ensures c.loop-i-test.true c.kid.ensures w.in-Some-kid.is (attr_waits _ _ _ w.attr-e.ensures w.push_item.ensures))
+      | attrs-in_default-kid w ↦ rw w.store-is (gathering_skip c.loop-i.invariant c.kid_count-i-end.ensures c.loop-i-test.true c.kid.ensures w.in_default-kid.is)
+    ]
+
+pub attrs-returns : goal.attrs-returns
+attrs-returns t c = attrpath_end _ _ c.in-Some.is (gathering_end c.loop-i.invariant c.kid_count-i-end.ensures c.loop-i-test.false)
+
+pub entries-loop-i-init : goal.entries-loop-i-init
+entries-loop-i-init t c = entries_start _ _ _ _ _ c.first_entry-i.ensures
+
+pub entries-loop-i-preserved : goal.entries-loop-i-preserved
+entries-loop-i-preserved t c =
+    elim c.match-kid.branch [
+      | entries-in-Some w ↦ rw w.store-is (merging_turn c.loop-i.invariant c.kid_count-i-end.ensures c.loop-i-test.true c.kid.ensures w.in-Some.is w.entry.ensures)
+      | entries-in_default w ↦ rw w.store-is (merging_skip c.loop-i.invariant c.kid_count-i-end.ensures c.loop-i-test.true c.kid.ensures w.in_default.is)
+    ]
+
+pub entries-returns : goal.entries-returns
+entries-returns t c = merging_end c.loop-i.invariant c.kid_count-i-end.ensures c.loop-i-test.false
+
+pub entry-returns-then-eq : goal.entry-returns-then-eq
+unfolding number_of_syntax
+entry-returns-then-eq t c = entry_inherit _ _ _ _ refl (if_kind c.syntax_kind.ensures code_kind.Inherit c.eq.ensures c.if-eq.true) c.inherit.ensures
+
+pub entry-returns-else-eq : goal.entry-returns-else-eq
+unfolding number_of_syntax
+entry-returns-else-eq t c = entry_attrpath _ _ _ _ refl (if_other c.syntax_kind.ensures code_kind.Inherit c.eq.ensures c.if-eq.false) c.put.ensures
+
+pub expr-returns-in_default : goal.expr-returns-in_default
+expr-returns-in_default t c = none_arm _ _ c.if-depth-eq0.false c.syntax_kind.ensures c.in_default.is c.missing_node.ensures
+
+pub expr-let_in-requires : goal.expr-let_in-requires
+unfolding number_of_syntax
+expr-let_in-requires t c = (omega (arith, c.decreases), (omega (arith, c.requires), of_kind c.syntax_kind.ensures code_kind.LetIn (c.in-Some.is ∙ ap Some c.in-LetIn.is)))
+
+pub expr-returns-in-Apply : goal.expr-returns-in-Apply
+expr-returns-in-Apply t c = pair_arm _ _ c.if-depth-eq0.false c.syntax_kind.ensures _ c.in-Some.is c.in-Apply.is c.pair.ensures
+
+pub expr-returns-in-IfElse : goal.expr-returns-in-IfElse
+expr-returns-in-IfElse t c = cond_arm _ _ c.if-depth-eq0.false c.syntax_kind.ensures _ c.in-Some.is c.in-IfElse.is c.cond.ensures
+
+pub expr-returns-in-Select : goal.expr-returns-in-Select
+expr-returns-in-Select t c = select_arm _ _ c.if-depth-eq0.false c.syntax_kind.ensures _ c.in-Some.is c.in-Select.is c.get.ensures
+
+pub expr-returns-in-HasAttr : goal.expr-returns-in-HasAttr
+expr-returns-in-HasAttr t c = has_arm _ _ c.if-depth-eq0.false c.syntax_kind.ensures _ c.in-Some.is c.in-HasAttr.is c.has.ensures
+
+pub expr-returns-in-Str : goal.expr-returns-in-Str
+expr-returns-in-Str t c = string_arm _ _ c.if-depth-eq0.false c.syntax_kind.ensures _ c.in-Some.is c.in-Str.is c.str.ensures
+
+pub expr-returns-in-Path : goal.expr-returns-in-Path
+expr-returns-in-Path t c = path_arm _ _ c.if-depth-eq0.false c.syntax_kind.ensures _ c.in-Some.is c.in-Path.is c.path.ensures
+
+pub expr-returns-in-Float : goal.expr-returns-in-Float
+expr-returns-in-Float t c = literal_arm _ _ c.if-depth-eq0.false c.syntax_kind.ensures _ c.in-Some.is c.in-Float.is c.literal.ensures
+
+pub expr-returns-in-Uri : goal.expr-returns-in-Uri
+expr-returns-in-Uri t c = uri_arm _ _ c.if-depth-eq0.false c.syntax_kind.ensures _ c.in-Some.is c.in-Uri.is c.uri.ensures
+
+pub expr-returns-in-Lambda : goal.expr-returns-in-Lambda
+expr-returns-in-Lambda t c = lambda_arm _ _ c.if-depth-eq0.false c.syntax_kind.ensures _ c.in-Some.is c.in-Lambda.is c.lambda.ensures
+
+pub expr-returns-in-LetIn : goal.expr-returns-in-LetIn
+expr-returns-in-LetIn t c = let_arm _ _ c.if-depth-eq0.false c.syntax_kind.ensures _ c.in-Some.is c.in-LetIn.is c.let_in.ensures
+
+pub expr-returns-in-List : goal.expr-returns-in-List
+expr-returns-in-List t c = list_arm _ _ c.if-depth-eq0.false c.syntax_kind.ensures _ c.in-Some.is c.in-List.is c.list.ensures
+
+pub expr-returns-in-BinOp : goal.expr-returns-in-BinOp
+expr-returns-in-BinOp t c = binop_arm _ _ c.if-depth-eq0.false c.syntax_kind.ensures _ c.in-Some.is c.in-BinOp.is c.binop.ensures
+
+pub expr-returns-in-AttrSet : goal.expr-returns-in-AttrSet
+expr-returns-in-AttrSet t c = set_arm _ _ c.if-depth-eq0.false c.syntax_kind.ensures _ c.in-Some.is c.in-AttrSet.is c.set.ensures
+
+pub expr-returns-in-UnaryOp : goal.expr-returns-in-UnaryOp
+expr-returns-in-UnaryOp t c = unop_arm _ _ c.if-depth-eq0.false c.syntax_kind.ensures _ c.in-Some.is c.in-UnaryOp.is c.unop.ensures
+
+pub expr-returns-in-Ident : goal.expr-returns-in-Ident
+expr-returns-in-Ident t c = ident_arm _ _ c.if-depth-eq0.false c.syntax_kind.ensures _ c.in-Some.is c.in-Ident.is (ident_lowers _ _ c.ident.ensures)
+
+pub expr-returns-in-Paren : goal.expr-returns-in-Paren
+expr-returns-in-Paren t c = inside_arm _ _ c.if-depth-eq0.false c.syntax_kind.ensures _ c.in-Some.is _ c.in-Paren.is c.kid-place.ensures c.opt.ensures
+
+pub expr-returns-in_default-kind : goal.expr-returns-in_default-kind
+expr-returns-in_default-kind t c =
+    let o = c.in_default-kind in
+    missing_arm _ _ c.if-depth-eq0.false c.syntax_kind.ensures _ c.in-Some.is
+    (o.not-Apply, o.not-IfElse, o.not-Select, o.not-With, o.not-HasAttr, o.not-Str, o.not-Path, o.not-Float, o.not-Integer, o.not-Uri, o.not-Lambda, o.not-LetIn, o.not-List, o.not-BinOp, o.not-Paren, o.not-AttrSet, o.not-UnaryOp, o.not-Ident, o.not-Assert, o.not-Root)
+    c.missing_node-in_default-kind.ensures
+
+pub fields-returns-in_default : goal.fields-returns-in_default
+fields-returns-in_default t c = fields_absent _ _ c.in_default.is
+
+pub fields-loop-i-init : goal.fields-loop-i-init
+fields-loop-i-init t c = fields_start _ _ _
+
+pub fields-loop-i-preserved : goal.fields-loop-i-preserved
+fields-loop-i-preserved t c =
+    elim c.match-kid.branch [
+      | fields-in-Some-kid w ↦ rw w.store-is (gathering_turn c.loop-i.invariant c.kid_count-i-end.ensures c.loop-i-test.true c.kid.ensures w.in-Some-kid.is w.field.ensures)
+      | fields-in_default-kid w ↦ rw w.store-is (gathering_skip c.loop-i.invariant c.kid_count-i-end.ensures c.loop-i-test.true c.kid.ensures w.in_default-kid.is)
+    ]
+
+pub fields-returns : goal.fields-returns
+fields-returns t c = fields_end _ _ c.in-Some.is (gathering_end c.loop-i.invariant c.kid_count-i-end.ensures c.loop-i-test.false)
+
+pub inherit-loop-i-init : goal.inherit-loop-i-init
+inherit-loop-i-init t c = inherits_start _ _ _ _ _
+
+pub inherit-loop-i-preserved : goal.inherit-loop-i-preserved
+inherit-loop-i-preserved t c =
+    elim c.match-kid.branch [
+      | inherit-in-Some w ↦ rw w.store-is (merging_turn c.loop-i.invariant c.kid_count-i-end.ensures c.loop-i-test.true c.kid.ensures w.in-Some.is w.heir.ensures)
+      | inherit-in_default w ↦ rw w.store-is (merging_skip c.loop-i.invariant c.kid_count-i-end.ensures c.loop-i-test.true c.kid.ensures w.in_default.is)
+    ]
+
+pub inherit-returns : goal.inherit-returns
+inherit-returns t c = inherits_end _ _ _ _ _ c.kid-place.ensures c.src-from_set.ensures c.loop-i.invariant c.kid_count-i-end.ensures c.loop-i-test.false
+
+pub list-loop-i-init : goal.list-loop-i-init
+list-loop-i-init t c = list_start _ _ _
+
+pub list-loop-i-preserved : goal.list-loop-i-preserved
+list-loop-i-preserved t c =
+    elim c.match-kid.branch [
+      | list-in-Some w ↦ rw w.store-is (gathering_turn c.loop-i.invariant c.kid_count-i-end.ensures c.loop-i-test.true c.kid.ensures w.in-Some.is (item_waits _ _ _ w.expr-e.ensures w.push_item.ensures))
+      | list-in_default w ↦ rw w.store-is (gathering_skip c.loop-i.invariant c.kid_count-i-end.ensures c.loop-i-test.true c.kid.ensures w.in_default.is)
+    ]
+
+pub list-returns : goal.list-returns
+list-returns t c = list_taken _ _ _ c.waiting_count-base.ensures c.node_pointer-p.ensures (gathering_end c.loop-i.invariant c.kid_count-i-end.ensures c.loop-i-test.false) c.alloc_expr.ensures
+
+pub part-returns-then-eq : goal.part-returns-then-eq
+unfolding number_of_syntax
+part-returns-then-eq t c = part_text _ _ _ refl _ (if_kind c.syntax_kind.ensures code_kind.LiteralPart c.eq.ensures c.if-eq.true) c.node_text-t.ensures c.push_item.ensures
+
+pub part-returns : goal.part-returns
+unfolding number_of_syntax
+part-returns t c = part_expr _ _ _ refl _ _ (if_other c.syntax_kind.ensures code_kind.LiteralPart c.eq.ensures c.if-eq.false) c.kid-place.ensures c.opt-e.ensures c.push_item-2.ensures
+
+pub parts-loop-i-init : goal.parts-loop-i-init
+parts-loop-i-init t c = parts_start _ _ _
+
+pub parts-loop-i-preserved : goal.parts-loop-i-preserved
+parts-loop-i-preserved t c =
+    elim c.match-kid.branch [
+      | parts-in-Some w ↦ rw w.store-is (gathering_turn c.loop-i.invariant c.kid_count-i-end.ensures c.loop-i-test.true c.kid.ensures w.in-Some.is w.part.ensures)
+      | parts-in_default w ↦ rw w.store-is (gathering_skip c.loop-i.invariant c.kid_count-i-end.ensures c.loop-i-test.true c.kid.ensures w.in_default.is)
+    ]
+
+pub parts-returns : goal.parts-returns
+parts-returns t c = gathering_end c.loop-i.invariant c.kid_count-i-end.ensures c.loop-i-test.false
+
+pub src-returns-in_err-place : goal.src-returns-in_err-place
+src-returns-in_err-place t c = rw c.from_residual.ensures (source_none _ _ _ c.in_err-place.was)
+
+pub src-returns : goal.src-returns
+src-returns t c = source_there _ _ _ _ _ _ c.in_ok-place.was c.kid-inner.ensures c.opt-e.ensures c.add_source.ensures
+
+pub there-returns-in_err-n : goal.there-returns-in_err-n
+there-returns-in_err-n t c = rw c.from_residual.ensures (there_absent _ _ c.in_err-n.was)
+
+pub there-returns : goal.there-returns
+there-returns t c = there_node _ _ _ c.in_ok-n.was c.expr.ensures

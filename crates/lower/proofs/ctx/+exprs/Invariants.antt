@@ -2,7 +2,7 @@
 use Prim.Native.Nat.{◌+◌, ◌*◌, ◌-◌}
 use Rattle.layout.specs.Layout.{kid_limit}
 use Rattle.lower.proofs.LoopLaws.{AttrpathLeft, EntriesLeft, FieldsLeft, InheritsLeft, ListLeft, PartsLeft}
-use Rattle.module.specs.Ids.{node_of, expr_of}
+use Rattle.module.specs.Ids.{expr_of}
 use Rattle.lower.proofs.ctx.+exprs.Given as goal
 
 abbrev pub decreases-attr : goal.decreases-attr
@@ -110,38 +110,20 @@ decreases-there l = 131072 * l.depth + 1
 abbrev pub decreases-unop : goal.decreases-unop
 decreases-unop l = 131072 * l.depth + 7
 
-abbrev pub invariant-attrs-loop-a : goal.invariant-attrs-loop-a
-invariant-attrs-loop-a l = AttrpathLeft l.depth (node_of l.place) l.initial.store l.i l.store
+abbrev pub invariant-attrs-loop-i : goal.invariant-attrs-loop-i
+invariant-attrs-loop-i l = AttrpathLeft l.depth l.n.0 l.initial.store l.i l.store
 
-abbrev pub decreases-attrs-loop-a : goal.decreases-attrs-loop-a
-decreases-attrs-loop-a l = kid_limit - l.i
+abbrev pub invariant-entries-loop-i : goal.invariant-entries-loop-i
+invariant-entries-loop-i l = EntriesLeft l.depth l.s.0 l.n.0 l.initial.store l.i l.store
 
-abbrev pub invariant-entries-loop-e : goal.invariant-entries-loop-e
-invariant-entries-loop-e l = EntriesLeft l.depth l.s.0 l.n.0 l.initial.store l.i l.store
+abbrev pub invariant-fields-loop-i : goal.invariant-fields-loop-i
+invariant-fields-loop-i l = FieldsLeft l.depth l.n.0 l.initial.store l.i l.store
 
-abbrev pub decreases-entries-loop-e : goal.decreases-entries-loop-e
-decreases-entries-loop-e l = kid_limit - l.i
+abbrev pub invariant-inherit-loop-i : goal.invariant-inherit-loop-i
+invariant-inherit-loop-i l = InheritsLeft l.depth l.s.0 (expr_of l.from_set) l.n.0 l.initial.store l.i l.store
 
-abbrev pub invariant-fields-loop-f : goal.invariant-fields-loop-f
-invariant-fields-loop-f l = FieldsLeft l.depth (node_of l.owner) l.initial.store l.i l.store
+abbrev pub invariant-list-loop-i : goal.invariant-list-loop-i
+invariant-list-loop-i l = ListLeft l.depth l.n.0 l.initial.store l.i l.store
 
-abbrev pub decreases-fields-loop-f : goal.decreases-fields-loop-f
-decreases-fields-loop-f l = kid_limit - l.i
-
-abbrev pub invariant-inherit-loop-a : goal.invariant-inherit-loop-a
-invariant-inherit-loop-a l = InheritsLeft l.depth l.s.0 (expr_of l.from_set) l.n.0 l.initial.store l.i l.store
-
-abbrev pub decreases-inherit-loop-a : goal.decreases-inherit-loop-a
-decreases-inherit-loop-a l = kid_limit - l.i
-
-abbrev pub invariant-list-loop-store : goal.invariant-list-loop-store
-invariant-list-loop-store l = ListLeft l.depth l.n.0 l.initial.store l.i l.store
-
-abbrev pub decreases-list-loop-store : goal.decreases-list-loop-store
-decreases-list-loop-store l = kid_limit - l.i
-
-abbrev pub invariant-parts-loop-p : goal.invariant-parts-loop-p
-invariant-parts-loop-p l = PartsLeft l.depth l.n.0 l.initial.store l.i l.store
-
-abbrev pub decreases-parts-loop-p : goal.decreases-parts-loop-p
-decreases-parts-loop-p l = kid_limit - l.i
+abbrev pub invariant-parts-loop-i : goal.invariant-parts-loop-i
+invariant-parts-loop-i l = PartsLeft l.depth l.n.0 l.initial.store l.i l.store

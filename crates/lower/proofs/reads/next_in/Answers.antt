@@ -2,8 +2,8 @@
 use Rattle.lower.proofs.ReadLaws.{next_node, next_none}
 use Rattle.lower.proofs.reads.next_in.Goals as goal
 
-pub returns-in-Some : goal.returns-in-Some
-returns-in-Some c = next_node _ _ _ _ c.in-Some.is _ c.next_item.ensures
+pub returns-in_err-place : goal.returns-in_err-place
+returns-in_err-place c = rw c.from_residual.ensures (next_none _ _ _ c.in_err-place.was)
 
-pub returns-in-None : goal.returns-in-None
-returns-in-None c = next_none _ _ _ c.in-None.is
+pub returns : goal.returns
+returns c = next_node _ _ _ _ c.in_ok-place.was _ c.next_item.ensures
