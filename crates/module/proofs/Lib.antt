@@ -1,3 +1,4 @@
 pub mod KindLaws
 pub mod LiteralLaws
 pub mod CounterLaws
+pub mod SyntaxKindLaws

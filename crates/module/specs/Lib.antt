@@ -1,3 +1,4 @@
 pub mod Ids
 pub mod Kinds
 pub mod Literals
+pub mod SyntaxKinds

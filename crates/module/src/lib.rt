@@ -11,6 +11,7 @@ mod ids;
 mod kinds;
 mod literal;
 mod pointer;
+mod syntax_kind;
 
 pub use counter::Counter;
 pub use expr::{Expr, Item, Pattern};
@@ -21,3 +22,4 @@ pub use ids::{
 pub use kinds::{NameKind, name_kind};
 pub use literal::{Literal, bits_of, float_of, integer_of, value_of};
 pub use pointer::Pointer;
+pub use syntax_kind::SyntaxKind;

@@ -1,50 +1,48 @@
 -- From accepted lines to a judged tree. Assumes nothing.
-use Rattle.std.specs.Prelude.{if◌then◌else◌}
-use mathlib.Core.Path.{◌≡◌, refl, sym, ap, ap₂, ◌∙◌}
-use mathlib.Core.Bool.{Bool, true, false, ◌&&◌}
+use Rattle.std.specs.Prelude.{Result, Ok, Err}
+use mathlib.Core.Path.{◌≡◌, refl, sym, ap, ◌∙◌}
+use mathlib.Core.Bool.{◌&&◌}
 use mathlib.Core.List.{List}
 use Prim.Native.Nat.{ℕ, ◌+◌, ◌≤◌, ◌<◌}
 use native.Mathlib.Omega.{arith}
 use lib.ListN.{length}
-use lib.Dec.{eqb, leb}
+use lib.Dec.{leb}
 use borrow.Author.Tests.{eq-eqb, ne_eqb}
 use Rattle.spec.specs.Basics.{bytes}
-use Rattle.spec.specs.Sheet.{wrong_count, number, decimal, Judged, accepted, refused, read_sheet}
+use Rattle.spec.specs.Sheet.{wrong_count, decimal, Judged, accepted, refused, read_sheet}
 use Rattle.spec.specs.Tree.{walk_to, whole_tree, judge_tree, judge}
 use Rattle.spec.proofs.reading.Lines.{number_within}
 use Rattle.spec.proofs.reading.Reading.{Sheet, accepted_sheet}
 use Rattle.sheet.specs.Keyed.{number_of}
-use Rattle.sheet.specs.Sheets.{answer, first_node, place_of}
+use Rattle.sheet.specs.Sheets.{numbered, answer, first_node, place_of}
 use Rattle.sheet.proofs.LineLaws.{number_is, field_inside}
 use Rattle.sheet.specs.declared.position.Position.{Position}
-use Rattle.sheet.specs.declared.sheets.SheetRead.{SheetRead}
-use Rattle.sheet.specs.declared.sheets.SheetRead.TheVariants.{Accepted, Refused}
 use Rattle.tree.specs.Nodes.{nodes_in, Stands}
-use Rattle.tree.specs.Walk.{Walks}
-use Rattle.tree.specs.Judge.{Nodes, tree_answer}
+use Rattle.tree.specs.Walk.{walked_of, Walks}
+use Rattle.tree.specs.Judge.{Nodes}
 use Rattle.tree.specs.declared.walk.Front.{Front}
-use Rattle.tree.specs.declared.walk.Walked.{Walked}
-use Rattle.tree.specs.declared.walk.Walked.TheVariants.{Met, Stopped}
+use Rattle.sheet.specs.declared.faults.SheetRefused.{SheetRefused}
+use Rattle.refusals.specs.Numbers as refusals
 
 -- ---- the lines
-module _ (s : List ℕ) (r : SheetRead) (e : r ≡ answer s (read_sheet s)) where
-  pub lines_refused : (number place : ℕ) → r ≡ Refused number place → Refused number place ≡ answer s (judge s)
-  unfolding judge judge_tree answer
-  lines_refused number place q = by_lines (read_sheet s) (sym q ∙ e)
-    where
-      by_lines : (j : Judged) → Refused number place ≡ answer s j → Refused number place ≡ answer s (judge_tree j)
-      by_lines (accepted ns) h = let z : ◌≡◌ {A = ℕ} 0 1 = cc in absurd (omega arith)
-      by_lines (refused n p) h = h
+pub lines_refused : (s : List ℕ) (w : SheetRefused) → numbered (Err w) ≡ answer s (read_sheet s) → numbered (Err w) ≡ answer s (judge s)
+unfolding judge judge_tree answer
+lines_refused s w e = by_lines (read_sheet s) e
+  where
+    by_lines : (j : Judged) → numbered (Err w) ≡ answer s j → numbered (Err w) ≡ answer s (judge_tree j)
+    by_lines (accepted ns) h = cc
+    by_lines (refused n p) h = h
 
-  pub lines_accepted : (nodes : ℕ) (first : Position) → r ≡ Accepted nodes first → Nodes s nodes first
-  unfolding nodes_in answer
-  lines_accepted nodes first q = by_lines (read_sheet s) refl (sym q ∙ e)
-    where
-      by_lines : (j : Judged) → read_sheet s ≡ j → Accepted nodes first ≡ answer s j → Nodes s nodes first
-      by_lines (accepted ns) f h =
-          let same : nodes_in s ≡ ns = rw f in
-          record { right = f ∙ ap accepted (sym same); count = rw same (cc); start = cc }
-      by_lines (refused n p) f h = let z : ◌≡◌ {A = ℕ} 0 1 = cc in absurd (omega arith)
+pub lines_accepted : (s : List ℕ) (nodes : ℕ) (first : Position) → numbered (Ok (nodes, first)) ≡ answer s (read_sheet s) → Nodes s nodes first
+unfolding nodes_in answer
+lines_accepted s nodes first e = by_lines (read_sheet s) refl e
+  where
+    by_lines : (j : Judged) → read_sheet s ≡ j → numbered (Ok (nodes, first)) ≡ answer s j → Nodes s nodes first
+    by_lines (accepted ns) f h =
+        let same : nodes_in s ≡ ns = rw f in
+        let pair : ◌≡◌ {A = ℕ × Position} (nodes, first) (length ns, first_node s) = cc in
+        record { right = f ∙ ap accepted (sym same); count = rw same (ap (λ p. p.0) pair); start = ap (λ p. p.1) pair }
+    by_lines (refused n p) f h = let z : ◌≡◌ {A = ℕ} 0 1 = cc in absurd (omega arith)
 
 -- ---- the first node
 module _ (s : List ℕ) (nodes : ℕ) (first : Position) (h : Nodes s nodes first) where
@@ -72,24 +70,29 @@ module _ (s : List ℕ) (nodes : ℕ) (first : Position) (h : Nodes s nodes firs
   unfolding judge judge_tree
   judged_as = ap judge_tree h.right
 
-  pub tree_judged : (w : Walked) → Walks s (walk_to (nodes_in s) 255 0) w → tree_answer nodes first w ≡ answer s (judge s)
-  unfolding whole_tree answer
-  tree_judged (Stopped number place) k = sym (ap (answer s) (judged_as ∙ ap (whole_tree (nodes_in s)) (sym k.same)))
-  tree_judged (Met front) k = by_test (eqb (front.highest + 1) nodes) refl ∙ sym (ap (answer s) (judged_as ∙ ap (whole_tree (nodes_in s)) (sym k.same)))
-    where
-      by_test : (b : Bool) → eqb (front.highest + 1) nodes ≡ b
-          → (if eqb (front.highest + 1) nodes then Accepted nodes first else Refused 7 (front.highest + 1))
-          ≡ answer s (if eqb (front.highest + 1) (length (nodes_in s)) then accepted (nodes_in s) else refused 7 (front.highest + 1))
-      by_test true q = rw (← h.count, q) (ap₂ Accepted h.count h.start)
-      by_test false q = rw (← h.count, q) refl
+  tree_is : (w : Result Front SheetRefused) → Walks s (walk_to (nodes_in s) 255 0) w → whole_tree (nodes_in s) (walked_of w) ≡ judge s
+  tree_is w k = ap (whole_tree (nodes_in s)) k.same ∙ sym judged_as
 
--- ---- 7
-module _ (nodes : ℕ) (first : Position) (w : Walked) where
-  pub met_all : (front : Front) → w ≡ Met front → front.highest + 1 ≡ nodes → Accepted nodes first ≡ tree_answer nodes first w
-  met_all front e q = sym (ap (tree_answer nodes first) e ∙ ap (λ b. if b then Accepted nodes first else Refused 7 (front.highest + 1)) (eq-eqb (front.highest + 1) nodes q))
+  pub stopped_tree : (r : SheetRefused) → Walks s (walk_to (nodes_in s) 255 0) (Err r) → refused (refusals.number_of r.why) r.place ≡ judge s
+  unfolding whole_tree
+  stopped_tree r k = tree_is (Err r) k
 
-  pub met_few : (front : Front) → w ≡ Met front → (front.highest + 1 ≡ nodes → ⊥) → Refused 7 (front.highest + 1) ≡ tree_answer nodes first w
-  met_few front e q = sym (ap (tree_answer nodes first) e ∙ ap (λ b. if b then Accepted nodes first else Refused 7 (front.highest + 1)) (ne_eqb (front.highest + 1) nodes q))
+  module _ (front : Front) (k : Walks s (walk_to (nodes_in s) 255 0) (Ok front)) where
+    pub met_all : front.highest + 1 ≡ nodes → accepted (nodes_in s) ≡ judge s
+    unfolding whole_tree
+    met_all q = rw (eq-eqb (front.highest + 1) (length (nodes_in s)) (q ∙ h.count)) at (tree_is (Ok front) k)
 
-  pub stopped_as : (number place : ℕ) → w ≡ Stopped number place → Refused number place ≡ tree_answer nodes first w
-  stopped_as number place e = sym (ap (tree_answer nodes first) e)
+    -- 7: nodes are left
+    pub met_few : (front.highest + 1 ≡ nodes → ⊥) → refused 7 (front.highest + 1) ≡ judge s
+    unfolding whole_tree
+    met_few q = rw (ne_eqb (front.highest + 1) (length (nodes_in s)) (λ e. q (e ∙ sym h.count))) at (tree_is (Ok front) k)
+
+-- ---- both
+module _ (s : List ℕ) (nodes : ℕ) (first : Position) (h : Nodes s nodes first) where
+  pub all_accepted : accepted (nodes_in s) ≡ judge s → numbered (Ok (nodes, first)) ≡ answer s (judge s)
+  unfolding answer
+  all_accepted k = rw (← k, h.count, h.start) refl
+
+pub tree_refused : (s : List ℕ) (r : SheetRefused) → refused (refusals.number_of r.why) r.place ≡ judge s → numbered (Err r) ≡ answer s (judge s)
+unfolding answer
+tree_refused s r k = rw (← k) refl

@@ -1,47 +1,48 @@
 -- The nodes of an accepted sheet and their kids, read one after the other. Assumes nothing.
-use mathlib.Core.Path.{◌≡◌, sym, ap, ◌∙◌, subst}
-use mathlib.Core.Bool.{true}
+use Rattle.std.specs.Prelude.{Option, Some, None, Result, Ok, Err, if◌then◌else◌}
+use Rattle.std.specs.Borrow.{Bor}
+use mathlib.Core.Path.{◌≡◌, refl, sym, ap, ◌∙◌, subst}
+use mathlib.Core.Bool.{Bool, true, false}
 use mathlib.Core.List.{List, [], ◌∷◌}
-use mathlib.Core.Option.{Option, none, some}
-use mathlib.Mathlib.Data.Bool.Basic.{and_elim_left}
-use Prim.Native.Nat.{ℕ, ◌+◌, ◌-◌, ◌<◌, ◌≤◌}
+use mathlib.Core.Option as math
+use mathlib.Mathlib.Data.Bool.Basic.{and_elim_left, and_elim_right}
+use Prim.Native.Nat.{ℕ, ◌+◌, ◌<◌, ◌≤◌}
 use native.Mathlib.Numerals.{add-one}
 use native.Mathlib.Omega.{arith}
 use lib.ListN.{length, drop}
 use lib.Seq.{drop-cons}
-use lib.Dec.{ltb}
-use borrow.Author.Tests.{ltb-true}
-use Rattle.words.specs.Runs.{run}
+use lib.Dec.{eqb, ltb}
+use borrow.Author.Tests.{ltb-true, lt-ltb}
 use Rattle.spec.specs.Basics.{NodeId, maybe}
 use Rattle.spec.specs.Sheet as spec
-use Rattle.spec.specs.Sheet.{Node, got, bad, node, all_below}
+use Rattle.spec.specs.Sheet.{Node, Got, got, bad, ◌>>=◌, give, number, wrong_kind, kid_list, all_below, node}
 use Rattle.spec.specs.Tree.{node_at, nobody}
+use Rattle.spec.proofs.reading.Lines.{read, number_within}
 use Rattle.spec.proofs.reading.Reading.{Reads, one_more_lem}
-use Rattle.sheet.specs.Nodes.{got_node, FormedNode, FormedSpans}
-use Rattle.sheet.specs.declared.position.Fault.{Fault}
+use Rattle.module.specs.SyntaxKinds.{syntax_of_number}
+use Rattle.module.specs.declared.syntax_kind.SyntaxKind.{SyntaxKind}
+use Rattle.module.proofs.SyntaxKindLaws.{syntax_gap, syntax_told}
+use Rattle.sheet.specs.Nodes.{node_of, got_node, FormedNode, FormedSpans}
+use Rattle.sheet.specs.Lines.{span_of}
+use Rattle.sheet.specs.Kids.{kid_of, short_kids, kids_from, RestInside}
+use Rattle.sheet.specs.declared.faults.Malformed.{Malformed}
+use Rattle.sheet.specs.declared.faults.Refused.{Refused}
 use Rattle.sheet.specs.declared.nodes.Node as row
-use Rattle.sheet.specs.declared.nodes.NodeRead.{NodeRead}
-use Rattle.sheet.specs.declared.nodes.NodeRead.TheVariants as read
-use Rattle.sheet.specs.Kids.{short_kids, kids_from, StepInside}
-use Rattle.sheet.proofs.KidLaws.{Before, walk_end, walk_malformed, walk_absent, walk_number}
-use Rattle.sheet.specs.declared.kids.KidStep.{KidStep}
-use Rattle.sheet.specs.declared.kids.KidStep.TheVariants as step
-use Rattle.tree.specs.Nodes.{nodes_in, Stands, kids_at, Kids, Read, After, Stepped, Fewer, Passed}
-use Rattle.tree.specs.declared.nodes.Kid.{Kid}
-use Rattle.tree.specs.declared.nodes.Kid.TheVariants.{End, Absent, Number}
-use Rattle.tree.specs.declared.nodes.Past.{Past}
-use Rattle.tree.specs.declared.nodes.Past.TheVariants as past
+use Rattle.sheet.proofs.KidLaws.{Before, walk_end, walk_malformed, walk_kid}
+use Rattle.tree.specs.Nodes.{nodes_in, Stands, kids_in, Kids, Read, After, FirstKid}
 
--- ---- what an answer says, once it is known which it is
-module _ (s : List ℕ) (at end : ℕ) (r : Kid) (h : Stepped s at end r) where
-  pub kid_none : r ≡ End → kids_at s at end ≡ []
-  kid_none e = subst (Stepped s at end) e h
+-- what is below a number is below a larger one
+below_more : (m n : ℕ) → m ≤ n → (ks : List (math.Option NodeId)) → all_below m ks ≡ true → all_below n ks ≡ true
+unfolding all_below
+below_more m n l [] h = refl
+below_more m n l (math.none ∷ ks) h = below_more m n l ks h
+below_more m n l (math.some k ∷ ks) h =
+    let b = ltb-true k m (and_elim_left (ltb k m) (all_below m ks) h) in
+    rw (lt-ltb k n (omega arith)) (below_more m n l ks (and_elim_right (ltb k m) (all_below m ks) h))
 
-  pub kid_absent : (next : ℕ) → r ≡ Absent next → After s at end none next
-  kid_absent next e = subst (Stepped s at end) e h
-
-  pub kid_number : (k next : ℕ) → r ≡ Number k next → After s at end (some k) next × (k < length (nodes_in s))
-  kid_number k next e = subst (Stepped s at end) e h
+pub below_head : (nodes k : ℕ) (ks : List (math.Option NodeId)) → all_below nodes (math.some k ∷ ks) ≡ true → k < nodes
+unfolding all_below
+below_head nodes k ks h = ltb-true k nodes (and_elim_left (ltb k nodes) (all_below nodes ks) h)
 
 -- ---- a node
 -- the first of some nodes, and where the others stand
@@ -56,8 +57,26 @@ first (one_more_lem i at place end n ns e r) = record { place = place; read = e;
 same_got : {A : Type 0} {x y : A} {p q : ℕ} → got x p ≡ got y q → (x ≡ y) × (p ≡ q)
 same_got h = (cc, cc)
 
-not_bad : {A : Type 0} {w : spec.Fault} {p q : ℕ} {y : A} → bad w p ≡ got y q → ◌≡◌ {A = ℕ} 0 1
+not_bad : {A : Type 0} {w : spec.Fault} {p q : ℕ} {y : A} → bad w p ≡ got y q → ⊥
 not_bad h = cc
+
+-- the kind of a node that was read
+kind_line : (root : Bool) (s : List ℕ) (at v to : ℕ) → (if root then number "kind=" wrong_kind 21 21 else number "kind=" wrong_kind 1 33) s at ≡ got v to
+    → (0 < v) × (v ≤ 33)
+kind_line true s at v to e = let w = number_within "kind=" wrong_kind 21 21 s at v to e in (omega (arith, w.0), omega (arith, w.1))
+kind_line false s at v to e = number_within "kind=" wrong_kind 1 33 s at v to e
+
+kind_within : (nodes i : ℕ) (s : List ℕ) (at : ℕ) (n : Node) (to : ℕ) → node nodes i s at ≡ got n to → (0 < n.kind) × (n.kind ≤ 33)
+unfolding node ◌>>=◌ give
+kind_within nodes i s at n to e =
+    let k = read _ s _ n to e in
+    let f = read _ s _ n to k.rest in
+    let t = read _ s _ n to f.rest in
+    let g = read _ s _ n to t.rest in
+    let c = read _ s _ n to g.rest in
+    let x = read _ s _ n to c.rest in
+    let same = same_got x.rest in
+    rw (← same.0) (kind_line (eqb i 0) s at k.value k.place k.first)
 
 module _ (s : List ℕ) (nodes n at : ℕ) (count : nodes ≡ length (nodes_in s)) (few : nodes ≤ 4294967295) (l : n < nodes) (h : Stands s n at) where
   here : First s (length (nodes_in s)) n at (node_at (nodes_in s) n) (drop (n + 1) (nodes_in s)) (length s)
@@ -66,114 +85,85 @@ module _ (s : List ℕ) (nodes n at : ℕ) (count : nodes ≡ length (nodes_in s
       let m : n < length (nodes_in s) = omega arith in
       first (rw (drop-cons (nodes_in s) n nobody m, ← add-one n) at h.follow)
 
-  module _ (r : NodeRead) (e : (got_node s r ≡ node nodes n s at) × FormedNode s nodes r) where
+  module _ (r : Result row.Node Refused) (e : got_node s r ≡ node nodes n s at) (f : FormedNode s nodes r) where
     as_read : got_node s r ≡ got (node_at (nodes_in s) n) here.place
-    as_read = e.0 ∙ (ap (λ c. node c n s at) count ∙ here.read)
+    as_read = e ∙ (ap (λ c. node c n s at) count ∙ here.read)
 
-    pub never_bad : (why : Fault) (place : ℕ) → r ≡ read.Bad why place → ⊥
-    never_bad why place q = let z : ◌≡◌ {A = ℕ} 0 1 = not_bad (ap (got_node s) (sym q) ∙ as_read) in omega arith
+    pub never_bad : (w : Refused) → r ≡ Err w → ⊥
+    never_bad w q = not_bad (ap (got_node s) (sym q) ∙ as_read)
 
-    pub lines_read : (x : row.Node) → r ≡ read.Value x
-        → Read s n (record { kind = x.kind; kids = x.kids.start; end = x.kids.end; next = x.next })
-    unfolding kids_at
-    lines_read x q =
-        let g = same_got (ap (got_node s) (sym q) ∙ as_read) in
-        let f : FormedSpans s nodes x = subst (FormedNode s nodes) q e.1 in
-        record {
-          kind = ap (λ n. n.kind) g.0;
-          kids = ap (λ n. n.kids) g.0;
-          listed =
-              record {
-                ordered = f.kids.ordered;
-                within = omega (arith, f.kids.within);
-                formed = f.kids.formed;
-                low = rw (← count) f.kids.fits;
-                few = omega arith;
-              };
-          next =
-              record {
-                inside = omega arith;
-                reach = omega (arith, f.next, f.text.within);
-                follow = rw g.1 here.others;
-              };
-        }
+    module _ (x : row.Node) (q : r ≡ Ok x) where
+      these : (node_of s x ≡ node_at (nodes_in s) n) × (x.next.at ≡ here.place)
+      these = same_got (ap (got_node s) (sym q) ∙ as_read)
 
--- ---- a kid
-pub below_head : (nodes k : ℕ) (ks : List (Option NodeId)) → all_below nodes (some k ∷ ks) ≡ true → k < nodes
-unfolding all_below
-below_head nodes k ks h = ltb-true k nodes (and_elim_left (ltb k nodes) (all_below nodes ks) h)
+      pub spans : FormedSpans s nodes x
+      spans = subst (FormedNode s nodes) q f
 
-module _ (s : List ℕ) (at end : ℕ) (h : Kids s at end) where
-  after : (k : Option NodeId) (next : ℕ) → Before s next end (length (nodes_in s)) k (kids_at s at end) → (at < next) × (next ≤ end) → After s at end k next
-  unfolding kids_at
-  after k next b i =
-      let here : kids_at s next end ≡ b.rest = ap (λ o. maybe o [] (λ ks. ks)) b.listed in
+      kind_known : (0 < x.kind) × (x.kind ≤ 33)
+      kind_known = rw (ap (λ n. n.kind) these.0) (kind_within _ _ _ _ _ _ here.read)
+
+      pub never_unkind : syntax_of_number x.kind ≡ None → ⊥
+      never_unkind z = let g = syntax_gap x.kind z kind_known.0 in omega (arith, g, kind_known.1)
+
+      pub within : (x.kids.start ≤ x.kids.end) × (x.kids.end ≤ length s)
+      within = (spans.kids.ordered, omega (arith, spans.kids.within))
+
+      pub lines_read : (k : SyntaxKind) → Some k ≡ syntax_of_number x.kind → (kids : Bor (List ℕ)) → kids.now ≡ span_of s x.kids
+          → Read s n (record { kind = k; kids = kids; next = x.next })
+      unfolding kids_in
+      lines_read k z kids a =
+          record {
+            kind = syntax_told x.kind k (sym z) ∙ ap (λ n. n.kind) these.0;
+            kids = rw a (ap (λ n. n.kids) these.0);
+            listed = rw a (record { formed = spans.kids.formed; low = below_more nodes 4294967295 few _ spans.kids.fits });
+            low = rw (a, ← count) spans.kids.fits;
+            next =
+                record {
+                  inside = omega arith;
+                  reach = omega (arith, spans.next, spans.text.within);
+                  follow = rw these.1 here.others;
+                };
+          }
+
+-- ---- a list of kids
+module _ (v : List ℕ) (h : Kids v) where
+  after : (k : Option ℕ) (rest : List ℕ) → Before rest 4294967295 (kid_of k) (kids_in v) → length rest < length v → After v k rest
+  unfolding kids_in
+  after k rest b l =
+      let here : kids_in rest ≡ b.others = ap (λ o. maybe o [] (λ ks. ks)) b.listed in
       record {
-        same = b.these ∙ ap (λ l. k ∷ l) (sym here);
-        onward = i.0;
+        same = b.these ∙ ap (λ l. kid_of k ∷ l) (sym here);
+        shorter = l;
         others =
             record {
-              ordered = i.1;
-              within = h.within;
-              formed = b.listed ∙ ap some (sym here);
-              low = ap (all_below (length (nodes_in s))) here ∙ b.below;
-              few = h.few;
+              formed = b.listed ∙ ap math.some (sym here);
+              low = ap (all_below 4294967295) here ∙ b.below;
             };
       }
 
-  module _ (r : KidStep) (e : (kids_from s end r ≡ short_kids (run s at (end - at))) × StepInside r at end) where
-    pub step_end : r ≡ step.End → kids_at s at end ≡ []
-    step_end = walk_end s at end (length (nodes_in s)) h.few (kids_at s at end) h.formed h.low r e.0
+  module _ (r : Result (Option (Option ℕ × Bor (List ℕ))) Malformed) (e : kids_from r ≡ short_kids v) (i : RestInside v r) where
+    pub never_malformed : (w : Malformed) → r ≡ Err w → ⊥
+    never_malformed w q = walk_malformed v 4294967295 (omega arith) (kids_in v) h.formed h.low (rw q at e)
 
-    pub never_malformed : r ≡ step.Malformed → ⊥
-    never_malformed = walk_malformed s at end (length (nodes_in s)) h.few (kids_at s at end) h.formed h.low r e.0
-
-    pub step_absent : (next : ℕ) → r ≡ step.Absent next → After s at end none next
-    step_absent next q =
-        after none next (walk_absent s at end (length (nodes_in s)) h.few (kids_at s at end) h.formed h.low r e.0 next q) (subst (λ r. StepInside r at end) q e.1)
-
-    pub step_number : (k next : ℕ) → r ≡ step.Number k next → After s at end (some k) next × (k < length (nodes_in s))
-    step_number k next q =
-        let b = walk_number s at end (length (nodes_in s)) h.few (kids_at s at end) h.formed h.low r e.0 k next q in
-        (after (some k) next b (subst (λ r. StepInside r at end) q e.1), below_head (length (nodes_in s)) k b.rest (ap (all_below (length (nodes_in s))) (sym b.these) ∙ h.low))
+    pub first_read : (x : Option (Option ℕ × Bor (List ℕ))) → r ≡ Ok x → FirstKid v x
+    first_read x q = first x (subst (λ r. kids_from r ≡ short_kids v) q e) (subst (RestInside v) q i)
+      where
+        first : (x : Option (Option ℕ × Bor (List ℕ))) → kids_from (Ok x) ≡ short_kids v → RestInside v (Ok x) → FirstKid v x
+        first None e i = walk_end v 4294967295 (omega arith) (kids_in v) h.formed h.low e
+        first (Some p) e i = after p.0 p.1.now (walk_kid v 4294967295 (omega arith) (kids_in v) h.formed h.low (kid_of p.0) p.1.now e) i.less
 
 -- ---- counting
-pub one_fewer : {s : List ℕ} {at end next : ℕ} {k : Option NodeId} → After s at end k next → Fewer s at end next
-one_fewer {s} {at} {end} {next} a =
-    record {
-      fewer = ap length a.same ∙ sym (add-one (length (kids_at s next end)));
-      onward = a.onward;
-      others = a.others;
-    }
+-- some kids are counted, and the others are in a list
+pub record Counting (v : List ℕ) (count : ℕ) (rest : List ℕ) : Type 0 where
+  pub kids : Kids rest
+  pub all : length (kids_in v) ≡ count + length (kids_in rest)
+  pub few : count + length rest ≤ length v
 
-module _ (s : List ℕ) (at end : ℕ) (r : Kid) (h : Stepped s at end r) where
-  pub no_kids : r ≡ End → length (kids_at s at end) ≡ 0
-  no_kids e = ap length (kid_none s at end r h e)
-
-  pub absent_passed : (next : ℕ) → r ≡ Absent next → Fewer s at end next
-  absent_passed next e = one_fewer (kid_absent s at end r h next e)
-
-  pub number_passed : (k next : ℕ) → r ≡ Number k next → Fewer s at end next
-  number_passed k next e = one_fewer (kid_number s at end r h k next e).0
-
-module _ (s : List ℕ) (at end : ℕ) (r : Past) (h : Passed s at end r) where
-  pub at_end : r ≡ past.End → length (kids_at s at end) ≡ 0
-  at_end e = subst (Passed s at end) e h
-
-  pub one_passed : (next : ℕ) → r ≡ past.Next next → Fewer s at end next
-  one_passed next e = subst (Passed s at end) e h
-
--- some kids are counted, and the others stand from a place on
-pub record Counting (s : List ℕ) (start end count at : ℕ) : Type 0 where
-  pub kids : Kids s at end
-  pub all : length (kids_at s start end) ≡ count + length (kids_at s at end)
-  pub few : count + start ≤ at
-
-pub counting_none : {s : List ℕ} {start end : ℕ} → Kids s start end → Counting s start end 0 start
+pub counting_none : {v : List ℕ} → Kids v → Counting v 0 v
 counting_none k = record { kids = k; all = omega arith; few = omega arith }
 
-pub counting_more : {s : List ℕ} {start end count at next : ℕ} → Counting s start end count at → Fewer s at end next → Counting s start end (count + 1) next
-counting_more c f = record { kids = f.others; all = omega arith; few = omega arith }
+pub counting_more : {v : List ℕ} {count : ℕ} {l : List ℕ} {k : Option ℕ} {rest : List ℕ} → Counting v count l → After l k rest → Counting v (count + 1) rest
+counting_more c a = record { kids = a.others; all = omega (arith, ap length a.same); few = omega arith }
 
-pub counting_end : {s : List ℕ} {start end count at : ℕ} → Counting s start end count at → length (kids_at s at end) ≡ 0 → count ≡ length (kids_at s start end)
-counting_end c e = omega arith
+pub counting_end : {v : List ℕ} {count : ℕ} {rest : List ℕ} → Counting v count rest → kids_in rest ≡ [] → count ≡ length (kids_in v)
+counting_end c e = omega (arith, ap length e)

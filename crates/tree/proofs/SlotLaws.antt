@@ -1,17 +1,24 @@
--- Which slots take a kind, by number. Assumes nothing.
-use mathlib.Core.Path.{◌≡◌, refl, ap, ◌∙◌}
-use mathlib.Core.Bool.{Bool, true, false, ◌&&◌, ◌||◌, not}
-use mathlib.Core.List.{List, [], ◌∷◌}
-use Prim.Native.Nat.{ℕ, ◌<◌, ◌≤◌}
+-- Which slots take a kind. Assumes nothing.
+use mathlib.Core.Path.{◌≡◌, refl, ap, sym, ◌∙◌}
+use mathlib.Core.Bool.{Bool, true, false, ◌&&◌, not}
+use mathlib.Core.List.{[], ◌∷◌}
+use Prim.Native.Nat.{ℕ, zero, suc, ◌<◌, ◌≤◌}
 use native.Mathlib.Omega.{arith}
-use lib.Dec.{T, eqb, leb, ltb, lit<}
+use lib.Dec.{T, leb, lit<}
 use lib.ListN.{get_or}
-use borrow.Author.Tests.{ne_eqb, lt-leb, eq-eqb, le-ltb}
+use borrow.Author.Tests.{ne_eqb, lt-leb, le-leb}
+use denote.Enum.Bare.{sameb}
+use Rattle.std.specs.Prelude.{Option, Some, None, MatchOption}
 use Rattle.spec.specs.Kinds.{takes}
-use Rattle.tree.specs.Slots.{slot_of, slot_number, string_taken}
+use Rattle.module.specs.SyntaxKinds.{number_of_syntax, syntax_of_number}
+use Rattle.module.specs.declared.syntax_kind.SyntaxKind.{SyntaxKind}
+use Rattle.module.specs.declared.syntax_kind.SyntaxKind.TheVariants as kind
+use Rattle.module.proofs.SyntaxKindLaws.{syntax_same, syntax_within, syntax_gap, syntax_told}
+use Rattle.tree.specs.Slots.{slot_of}
+use Rattle.tree.specs.contracts.slots.Slot.{the_type}
 use Rattle.tree.specs.declared.slots.Slot.{Slot}
 use Rattle.tree.specs.declared.slots.Slot.TheVariants.{Expression, Path, Attribute, Entry, Part, Parameter, From, Ident, Bind, PatternEntry}
-use Rattle.words.proofs.Tests.{or_second, all_up_to, at_number, NoneOf, some_key, no_key}
+use Rattle.words.proofs.Tests.{all_up_to, at_number}
 
 abbrev same : Bool → Bool → Bool
 same true b = b
@@ -23,7 +30,7 @@ same_eq true false h = absurd h
 same_eq false true h = absurd h
 same_eq false false h = refl
 
--- the slot with a number, and a test that passes at every slot
+-- a test that passes at every slot
 abbrev slot_at : ℕ → Slot
 slot_at n = get_or (Expression ∷ Path ∷ Attribute ∷ Entry ∷ Part ∷ Parameter ∷ From ∷ Ident ∷ Bind ∷ PatternEntry ∷ []) n Expression
 
@@ -42,17 +49,72 @@ at_slot P h Ident = at_number 10 (λ n. P (slot_at n)) h 7 (lit< tt)
 at_slot P h Bind = at_number 10 (λ n. P (slot_at n)) h 8 (lit< tt)
 at_slot P h PatternEntry = at_number 10 (λ n. P (slot_at n)) h 9 (lit< tt)
 
--- the kind is taken by the slots whose number passes the test, and by no other
-abbrev pub taken : (ℕ → Bool) → ℕ → Bool
-taken f k = all_slots (λ x. same (f (slot_number x)) (takes (slot_of x) k))
+-- the kind is taken by the slot y and by no other
+abbrev pub only : Slot → ℕ → Bool
+only y k = all_slots (λ x. same (sameb the_type x y) (takes (slot_of x) k))
 
-pub taken_at : (f : ℕ → Bool) (k : ℕ) → T (taken f k) → (x : Slot) (n : ℕ) → n ≡ slot_number x → f n ≡ takes (slot_of x) k
-taken_at f k h x n e = ap f e ∙ same_eq _ _ (at_slot (λ x. same (f (slot_number x)) (takes (slot_of x) k)) h x)
+pub taken_alone : (y : Slot) (k j : SyntaxKind) → T (only y (number_of_syntax k)) → j ≡ k → (x : Slot) (b : Bool) → b ≡ sameb the_type x y
+    → b ≡ takes (slot_of x) (number_of_syntax j)
+taken_alone y k j h e x b q =
+    q ∙ (same_eq _ _ (at_slot (λ x. same (sameb the_type x y) (takes (slot_of x) (number_of_syntax k))) h x)
+    ∙ ap (λ k. takes (slot_of x) (number_of_syntax k)) (sym e))
+
+-- a string, and a name
+pub no_string : (x : Slot) (k : SyntaxKind) → k ≡ kind.Str → (x ≡ Expression → ⊥) → (x ≡ Attribute → ⊥) → false ≡ takes (slot_of x) (number_of_syntax k)
+unfolding slot_of takes number_of_syntax
+no_string Expression k e a b = absurd (a refl)
+no_string Path k e a b = rw e refl
+no_string Attribute k e a b = absurd (b refl)
+no_string Entry k e a b = rw e refl
+no_string Part k e a b = rw e refl
+no_string Parameter k e a b = rw e refl
+no_string From k e a b = rw e refl
+no_string Ident k e a b = rw e refl
+no_string Bind k e a b = rw e refl
+no_string PatternEntry k e a b = rw e refl
+
+pub no_name : (x : Slot) (k : SyntaxKind) → k ≡ kind.Ident → (x ≡ Expression → ⊥) → (x ≡ Attribute → ⊥) → (x ≡ Ident → ⊥)
+    → false ≡ takes (slot_of x) (number_of_syntax k)
+unfolding slot_of takes number_of_syntax
+no_name Expression k e a b d = absurd (a refl)
+no_name Path k e a b d = rw e refl
+no_name Attribute k e a b d = absurd (b refl)
+no_name Entry k e a b d = rw e refl
+no_name Part k e a b d = rw e refl
+no_name Parameter k e a b d = rw e refl
+no_name From k e a b d = rw e refl
+no_name Ident k e a b d = absurd (d refl)
+no_name Bind k e a b d = rw e refl
+no_name PatternEntry k e a b d = rw e refl
+
+-- the other kinds up to 22 are expressions alone
+pub expression_alone : (k : SyntaxKind) → (number_of_syntax k ≤ 22) × ((number_of_syntax k ≡ 6 → ⊥) × (number_of_syntax k ≡ 18 → ⊥))
+    → (x : Slot) (b : Bool) → b ≡ sameb the_type x Expression → b ≡ takes (slot_of x) (number_of_syntax k)
+unfolding slot_of takes
+expression_alone k h Expression b e = e ∙ rw (le-leb 1 (number_of_syntax k) (syntax_within k).0, le-leb (number_of_syntax k) 22 h.0) refl
+expression_alone k h Path b e = e ∙ rw (ne_eqb (number_of_syntax k) 23 (λ e. omega arith)) refl
+expression_alone k h Attribute b e =
+    e ∙ rw (ne_eqb (number_of_syntax k) 6 h.1.0, ne_eqb (number_of_syntax k) 18 h.1.1, ne_eqb (number_of_syntax k) 24 (λ e. omega arith)) refl
+expression_alone k h Entry b e =
+    e ∙ rw (ne_eqb (number_of_syntax k) 25 (λ e. omega arith), ne_eqb (number_of_syntax k) 26 (λ e. omega arith)) refl
+expression_alone k h Part b e =
+    e ∙ rw (ne_eqb (number_of_syntax k) 32 (λ e. omega arith), ne_eqb (number_of_syntax k) 33 (λ e. omega arith)) refl
+expression_alone k h Parameter b e =
+    e ∙ rw (ne_eqb (number_of_syntax k) 28 (λ e. omega arith), ne_eqb (number_of_syntax k) 29 (λ e. omega arith)) refl
+expression_alone k h From b e = e ∙ rw (ne_eqb (number_of_syntax k) 27 (λ e. omega arith)) refl
+expression_alone k h Ident b e = e ∙ rw (ne_eqb (number_of_syntax k) 18 h.1.1) refl
+expression_alone k h Bind b e = e ∙ rw (ne_eqb (number_of_syntax k) 30 (λ e. omega arith)) refl
+expression_alone k h PatternEntry b e = e ∙ rw (ne_eqb (number_of_syntax k) 31 (λ e. omega arith)) refl
+
+-- two kinds that are not the same have two numbers
+pub unlike : (j k : SyntaxKind) → (j ≡ k → ⊥) → number_of_syntax j ≡ number_of_syntax k → ⊥
+unlike j k h e = h (syntax_same j k e)
 
 -- no slot takes a number that is no kind
-pub beyond : (x : Slot) (k : ℕ) → 34 ≤ k → false ≡ takes (slot_of x) k
+beyond : (x : Slot) (k : ℕ) → (0 < k → 33 < k) → false ≡ takes (slot_of x) k
 unfolding slot_of takes
-beyond Expression k h = rw (lt-leb k 22 (omega arith)) (never (leb 1 k))
+beyond Expression zero h = refl
+beyond Expression (suc k) h = rw (lt-leb (suc k) 22 (omega arith)) (never (leb 1 (suc k)))
   where
     never : (b : Bool) → false ≡ (b && false)
     never true = refl
@@ -67,32 +129,8 @@ beyond Ident k h = rw (ne_eqb k 18 (λ e. omega arith))
 beyond Bind k h = rw (ne_eqb k 30 (λ e. omega arith))
 beyond PatternEntry k h = rw (ne_eqb k 31 (λ e. omega arith))
 
--- an arm with one key
-pub key_at : (f : ℕ → Bool) (j : ℕ) → T (taken f j) → (k : ℕ) → k ≡ j → (x : Slot) (n : ℕ) → n ≡ slot_number x → f n ≡ takes (slot_of x) k
-key_at f j h k e x n q = rw e (taken_at f j h x n q)
-
--- ---- an arm with a range, below which stand arms with keys
-abbrev pub outside : List (List ℕ) → ℕ → ℕ → ℕ → Bool
-outside kss lo hi k = some_key kss k || (ltb k lo || leb hi k)
-
-inside : (kss : List (List ℕ)) (lo hi k : ℕ) → NoneOf kss k → lo ≤ k → k < hi → outside kss lo hi k ≡ false
-inside kss lo hi k o l h = rw (no_key kss k o, le-ltb k lo l, lt-leb hi k h)
-
-pub range_at : (f : ℕ → Bool) (kss : List (List ℕ)) (lo hi : ℕ) → T (all_up_to 34 (λ k. outside kss lo hi k || taken f k)) → hi ≤ 34
-    → (k : ℕ) → NoneOf kss k → lo ≤ k → k < hi → (x : Slot) (n : ℕ) → n ≡ slot_number x → f n ≡ takes (slot_of x) k
-range_at f kss lo hi t m k o l h =
-    taken_at f k (or_second (outside kss lo hi k) (taken f k) (at_number 34 (λ k. outside kss lo hi k || taken f k) t k (omega arith)) (inside kss lo hi k o l h))
-
--- ---- a name, which an identifier's place takes too
-abbrev pub name_taken : ℕ → Bool
-name_taken n = eqb n 7 || string_taken n
-
-pub name_first : (n : ℕ) → n ≡ 7 → eqb n 7 ≡ name_taken n
-name_first n e = rw (eq-eqb n 7 e)
-
-pub name_else : (n : ℕ) → (n ≡ 7 → ⊥) → string_taken n ≡ name_taken n
-name_else n e = rw (ne_eqb n 7 e)
-
--- the keys of the arms that have one
-abbrev pub keys : List (List ℕ)
-keys = (31 ∷ []) ∷ (30 ∷ []) ∷ (27 ∷ []) ∷ (24 ∷ []) ∷ (23 ∷ []) ∷ (18 ∷ []) ∷ (6 ∷ []) ∷ []
+-- the slot and the number of a kind, or of none
+pub by_number : (x : Slot) (n : ℕ) (o : Option SyntaxKind) (b : Bool) → o ≡ syntax_of_number n
+    → MatchOption o (b ≡ false) (λ k. b ≡ takes (slot_of x) (number_of_syntax k)) → b ≡ takes (slot_of x) n
+by_number x n None b e h = h ∙ beyond x n (syntax_gap n (sym e))
+by_number x n (Some k) b e h = h ∙ ap (takes (slot_of x)) (syntax_told n k (sym e))

@@ -1,37 +1,49 @@
 -- The walk of the definitions, one law for each way out of the code. Assumes nothing.
+use Rattle.std.specs.Prelude.{Option, Some, None, Result, Ok, Err}
+use Rattle.std.specs.Option.{ok_or}
 use mathlib.Core.Path.{◌≡◌, refl, sym, ap, ◌∙◌, subst}
 use mathlib.Core.Bool.{Bool, true, false}
 use mathlib.Core.List.{List, [], ◌∷◌}
-use mathlib.Core.Option.{Option, none, some}
-use Prim.Native.Nat.{ℕ, zero, suc, ◌+◌, ◌-◌}
+use mathlib.Core.Logic.{inl, inr}
+use mathlib.Core.Option as math
+use mathlib.Mathlib.Data.Bool.Basic.{and_elim_right}
+use Prim.Native.Nat.{ℕ, zero, suc, ◌+◌, ◌-◌, ◌<◌}
 use native.Mathlib.Omega.{arith}
 use lib.ListN.{length}
+use lib.Dec.{ltb}
 use borrow.Author.Tests.{eq-eqb, ne_eqb}
 use Rattle.spec.specs.Basics.{NodeId}
 use Rattle.spec.specs.Kinds as Kinds
 use Rattle.spec.specs.Kinds.{kind_of, takes}
-use Rattle.spec.specs.Sheet.{Node}
+use Rattle.spec.specs.Sheet.{Node, all_below}
 use Rattle.spec.specs.Tree as spec
 use Rattle.spec.specs.Tree.{node_at, met, stopped, then_walk, count_fits, kid_fits, walk_kids, walk_node, walk_to}
-use Rattle.tree.specs.Places.{counted_of, listed_of, Fills}
-use Rattle.tree.specs.Nodes.{nodes_in, kids_at, Read, After}
-use Rattle.tree.specs.Walk.{Walks, entering, entered, kids_walk, TodoStands, Goes, Stepping, after_kid}
-use Rattle.tree.specs.declared.places.Counted.{Counted}
-use Rattle.tree.specs.declared.places.Counted.TheVariants.{Nothing}
-use Rattle.tree.specs.declared.places.Listed.{Listed}
+use Rattle.refusals.specs.Numbers.{number_of}
+use Rattle.refusals.specs.declared.refusal.Refusal.{Refusal}
+use Rattle.refusals.specs.declared.refusal.Refusal.TheVariants.{MisplacedKid}
+use Rattle.module.specs.SyntaxKinds.{number_of_syntax}
+use Rattle.tree.proofs.NodeLaws.{below_head}
+use Rattle.tree.specs.Slots.{slot_of}
+use Rattle.tree.specs.Places.{counted_of, listed_of, Fills, Skips, Opens}
+use Rattle.sheet.specs.Kids.{kid_of}
+use Rattle.tree.specs.Nodes.{nodes_in, kids_in, Kids, Read, After}
+use Rattle.tree.specs.Walk.{Walks, entering, entered, kids_walk, TodoStands, Steps}
+use Rattle.tree.specs.declared.slots.Slot.{Slot}
 use Rattle.tree.specs.declared.places.Places.{Places}
 use Rattle.tree.specs.declared.nodes.Lines.{Lines}
-use Rattle.tree.specs.declared.walk.Walked.{Walked}
-use Rattle.tree.specs.declared.walk.Walked.TheVariants.{Met, Stopped}
+use Rattle.tree.specs.declared.walk.Front.{Front}
+use Rattle.sheet.specs.declared.faults.SheetRefused.{SheetRefused}
 use Rattle.tree.specs.declared.walk.Todo.{Todo}
-use Rattle.tree.specs.declared.walk.Step.{Step}
-use Rattle.tree.specs.declared.walk.Step.TheVariants.{More, Done}
 
 -- ---- answers
-pub stops : (s : List ℕ) (number : ℕ) (n : NodeId) {w : spec.Walked} → w ≡ stopped number n → Walks s w (Stopped number n)
-stops s number n e = record { same = sym e; moved = tt }
+module _ (s : List ℕ) (n : NodeId) (why : Refusal) (r : SheetRefused) (e : (r.why ≡ why) × (r.place ≡ n)) where
+  same_stop : stopped (number_of r.why) r.place ≡ stopped (number_of why) n
+  same_stop = rw (e.0, e.1) refl
 
-pub walks_as : {s : List ℕ} {v w : spec.Walked} {r : Walked} → v ≡ w → Walks s v r → Walks s w r
+  pub stops : {w : spec.Walked} → w ≡ stopped (number_of why) n → Walks s w (Err r)
+  stops h = record { same = same_stop ∙ sym h; moved = tt }
+
+pub walks_as : {s : List ℕ} {v w : spec.Walked} {r : Result Front SheetRefused} → v ≡ w → Walks s v r → Walks s w r
 walks_as e h = record { same = h.same ∙ e; moved = h.moved }
 
 -- ---- the node
@@ -52,21 +64,19 @@ module _ (ns : List Node) (left : ℕ) (n : NodeId) where
   unfolding walk_node
   by_count b e = ap on_count e ∙ sym (walk_is left refl)
 
-module _ (s : List ℕ) (left : ℕ) (n : NodeId) (r : Lines) (h : Read s n r) (kids : ℕ) (count : kids ≡ length (kids_at s r.kids r.end)) where
-  counts : (b : Bool) → b ≡ count_fits r.kind kids → b ≡ count_fits (node_at (nodes_in s) n).kind (length (node_at (nodes_in s) n).kids)
+module _ (s : List ℕ) (left : ℕ) (n : NodeId) (r : Lines) (h : Read s n r) (kids : ℕ) (count : kids ≡ length (kids_in r.kids.now)) where
+  counts : (b : Bool) → b ≡ count_fits (number_of_syntax r.kind) kids → b ≡ count_fits (node_at (nodes_in s) n).kind (length (node_at (nodes_in s) n).kids)
   counts b e = rw (← h.kind, ← h.kids, ← count) e
 
   -- 4: the count is wrong
-  pub miscounted : false ≡ count_fits r.kind kids → Walks s (walk_to (nodes_in s) left n) (Stopped 4 n)
-  miscounted e = stops s 4 n (sym (by_count (nodes_in s) left n false (counts false e)))
+  pub miscounted : false ≡ count_fits (number_of_syntax r.kind) kids → walk_to (nodes_in s) left n ≡ stopped 4 n
+  miscounted e = sym (by_count (nodes_in s) left n false (counts false e))
 
   -- else the kids are walked
-  pub kids_walked : true ≡ count_fits r.kind kids → (p : Places) → Fills p (kind_of r.kind) → (w : Walked)
-      → Walks s (kids_walk s left n (record { counted = p.counted; listed = p.listed; kid = r.kids; end = r.end; front = record { highest = n; next = r.next } })) w
-      → Walks s (walk_to (nodes_in s) left n) w
+  pub kids_walked : true ≡ count_fits (number_of_syntax r.kind) kids → (p : Places) → Fills p (kind_of (number_of_syntax r.kind))
+      → kids_walk s left n (record { places = p; front = record { highest = n; next = r.next } }) (kids_in r.kids.now) ≡ walk_to (nodes_in s) left n
   unfolding kids_walk
-  kids_walked e p f w walked =
-      walks_as (rw (f.counted, f.listed, h.kind, h.kids) (by_count (nodes_in s) left n true (counts true e))) walked
+  kids_walked e p f = rw (f.counted, f.listed, h.kind, h.kids) (by_count (nodes_in s) left n true (counts true e))
 
 -- ---- a kid
 module _ (ns : List Node) (left : ℕ) (n : NodeId) (slot : Kinds.Slot) (k highest : ℕ) where
@@ -106,99 +116,133 @@ module _ (ns : List Node) (left : ℕ) (n : NodeId) (slot : Kinds.Slot) (k highe
   goes_in e t z = sym (placed e t ∙ below left (left - 1) (omega (arith, z)))
 
 -- ---- the kids that are left
+as_given : {A : Type 0} (o : Option A) (r w : SheetRefused) → ◌≡◌ {A = Result A SheetRefused} (Err w) (ok_or o r) → o ≡ None → w ≡ r
+as_given {A = A} o r w q z = let h : ◌≡◌ {A = Result A SheetRefused} (Err w) (Err r) = rw z at q in cc
+
 then_entered : (a : spec.Walked) (n : NodeId) (f : ℕ → spec.Walked) (b : Bool)
     → ◌≡◌ {A = spec.Walked} (elim b [ true ↦ then_walk a f | false ↦ stopped 5 n ]) (then_walk (elim b [ true ↦ a | false ↦ stopped 5 n ]) f)
 unfolding then_walk
 then_entered a n f true = refl
 then_entered a n f false = refl
 
-module _ (s : List ℕ) (left : ℕ) (n : NodeId) (t : Todo) (ready : TodoStands s t) where
-  abbrev on : List Kinds.Slot → Option Kinds.Slot → List (Option NodeId) → ℕ → spec.Walked
+module _ (s : List ℕ) (left : ℕ) (n : NodeId) (t : Todo) where
+  abbrev on : List Kinds.Slot → math.Option Kinds.Slot → List (math.Option NodeId) → ℕ → spec.Walked
   on = walk_kids (nodes_in s) (entering (nodes_in s) left n) n
 
-  start : {counted : List Kinds.Slot} {listed : Option Kinds.Slot} {kids : List (Option NodeId)}
-      → counted_of t.counted ≡ counted → listed_of t.listed ≡ listed → kids_at s t.kid t.end ≡ kids
-      → kids_walk s left n t ≡ on counted listed kids t.front.highest
+  start : {counted : List Kinds.Slot} {listed : math.Option Kinds.Slot} → counted_of t.places ≡ counted → listed_of t.places ≡ listed
+      → (kids : List (math.Option NodeId)) → kids_walk s left n t kids ≡ on counted listed kids t.front.highest
   unfolding kids_walk
-  start c l k = rw (c, l, k)
+  start c l kids = rw (c, l)
 
   -- no kid is left
-  pub ended : kids_at s t.kid t.end ≡ [] → Walks s (kids_walk s left n t) (Met t.front)
-  unfolding walk_kids
-  ended k = record { same = sym (start refl refl k); moved = ready.place }
+  pub ended : (v : List ℕ) → kids_in v ≡ [] → TodoStands s t → Walks s (kids_walk s left n t (kids_in v)) (Ok t.front)
+  unfolding walk_kids kids_walk
+  ended v e h = record { same = rw e refl; moved = h }
 
   -- ---- an absent kid
-  pub skipped : (rest : Counted) (slot : Kinds.Slot) (next : ℕ) → After s t.kid t.end none next → counted_of t.counted ≡ slot ∷ counted_of rest
-      → Goes s left n t (record { counted = rest; listed = t.listed; kid = next; end = t.end; front = t.front })
+  pub skipped : (kid : Option ℕ) → kid ≡ None → (o : Option Places) → Skips t.places o → (q : Places) → o ≡ Some q → TodoStands s t
+      → Steps s left n kid t (Ok (record { places = q; front = t.front }))
   unfolding walk_kids kids_walk
-  skipped rest slot next a c =
-      record {
-        same = sym (start c refl a.same);
-        onward = a.onward;
-        ready = record { kids = a.others; place = ready.place };
-      }
+  skipped kid z o e q a h = let f = subst (Skips t.places) a e in ((λ kids. rw (z, f.0.1, f.1) refl), h)
 
-  pub absent_item : (next : ℕ) → After s t.kid t.end none next → counted_of t.counted ≡ [] → Walks s (kids_walk s left n t) (Stopped 5 n)
+  absent_item : (o : Option Places) → Skips t.places o → o ≡ None → (kids : List (math.Option NodeId)) → kids_walk s left n t (math.none ∷ kids) ≡ stopped 5 n
   unfolding walk_kids
-  absent_item next a c = stops s 5 n (start c refl a.same)
+  absent_item o e z kids = start (subst (Skips t.places) z e) refl (math.none ∷ kids)
+
+  pub no_place : (kid : Option ℕ) → kid ≡ None → (o : Option Places) → Skips t.places o
+      → (r : SheetRefused) → (r.why ≡ MisplacedKid) × (r.place ≡ n) → (w : SheetRefused) → Err w ≡ ok_or o r → o ≡ None → Steps s left n kid t (Err w)
+  no_place kid z o e r p w q a kids =
+      let same : w ≡ r = as_given o r w q a in
+      rw (z, same) (same_stop s n MisplacedKid r p ∙ sym (absent_item o e a kids))
 
   -- ---- a kid that is there
-  pub beyond_places : (k : NodeId) (next : ℕ) → After s t.kid t.end (some k) next → counted_of t.counted ≡ [] → listed_of t.listed ≡ none → Walks s (kids_walk s left n t) (Stopped 5 n)
+  beyond_places : (o : Option (Slot × Places)) → Opens t.places o → o ≡ None → (k : NodeId) (kids : List (math.Option NodeId))
+      → kids_walk s left n t (math.some k ∷ kids) ≡ stopped 5 n
   unfolding walk_kids
-  beyond_places k next a c l = stops s 5 n (start c l a.same)
+  beyond_places o e z k kids = let h = subst (Opens t.places) z e in start h.0 h.1 (math.some k ∷ kids)
 
-  into_first : (k : NodeId) (next : ℕ) (slot : Kinds.Slot) (rest : List Kinds.Slot) → After s t.kid t.end (some k) next → counted_of t.counted ≡ slot ∷ rest
-      → kids_walk s left n t ≡ then_walk (entered (nodes_in s) left n slot k t.front.highest) (on rest (listed_of t.listed) (kids_at s next t.end))
-  unfolding walk_kids entered
-  into_first k next slot rest a c = start c refl a.same ∙ then_entered _ n _ (kid_fits (nodes_in s) slot k t.front.highest)
+  pub no_slot : (kid : Option ℕ) (k : ℕ) → kid ≡ Some k → (o : Option (Slot × Places)) → Opens t.places o
+      → (r : SheetRefused) → (r.why ≡ MisplacedKid) × (r.place ≡ n) → (w : SheetRefused) → Err w ≡ ok_or o r → o ≡ None → Steps s left n kid t (Err w)
+  no_slot kid k z o e r p w q a kids =
+      let same : w ≡ r = as_given o r w q a in
+      rw (z, same) (same_stop s n MisplacedKid r p ∙ sym (beyond_places o e a k kids))
 
-  into_list : (k : NodeId) (next : ℕ) (slot : Kinds.Slot) → After s t.kid t.end (some k) next → counted_of t.counted ≡ [] → listed_of t.listed ≡ some slot
-      → kids_walk s left n t ≡ then_walk (entered (nodes_in s) left n slot k t.front.highest) (on [] (listed_of t.listed) (kids_at s next t.end))
-  unfolding walk_kids entered
-  into_list k next slot a c l = start c l a.same ∙ (then_entered _ n _ (kid_fits (nodes_in s) slot k t.front.highest) ∙ rw l)
+  module _ (k : NodeId) (x : Slot × Places) (e : Opens t.places (Some x)) where
+    abbrev after : math.Option Kinds.Slot → List Kinds.Slot → List (math.Option NodeId) → spec.Walked
+    after l c kids = then_walk (entered (nodes_in s) left n (slot_of x.0) k t.front.highest) (on c l kids)
 
-  -- what was to do goes on after the kid, or ends with it
-  onward : (rest : Counted) (k : NodeId) (next : ℕ) (slot : Kinds.Slot) → After s t.kid t.end (some k) next
-      → kids_walk s left n t ≡ then_walk (entered (nodes_in s) left n slot k t.front.highest) (on (counted_of rest) (listed_of t.listed) (kids_at s next t.end))
-      → (w : Walked) → Walks s (entered (nodes_in s) left n slot k t.front.highest) w → Stepping s left n t (after_kid w rest t.listed next t.end)
-  unfolding then_walk kids_walk
-  onward rest k next slot a e (Met front) h =
-      record {
-        same = sym (e ∙ rw (← h.same));
-        onward = a.onward;
-        ready = record { kids = a.others; place = h.moved };
-      }
-  onward rest k next slot a e (Stopped number place) h = record { same = sym (e ∙ rw (← h.same)); moved = tt }
+    into_counted : counted_of t.places ≡ slot_of x.0 ∷ counted_of x.1 → (kids : List (math.Option NodeId))
+        → kids_walk s left n t (math.some k ∷ kids) ≡ after (listed_of t.places) (counted_of x.1) kids
+    unfolding walk_kids entered
+    into_counted c kids = start c refl (math.some k ∷ kids) ∙ then_entered _ n _ (kid_fits (nodes_in s) (slot_of x.0) k t.front.highest)
 
-  pub after_first_lem : (rest : Counted) (k : NodeId) (next : ℕ) (slot : Kinds.Slot) → After s t.kid t.end (some k) next → counted_of t.counted ≡ slot ∷ counted_of rest
-      → (w : Walked) → Walks s (entered (nodes_in s) left n slot k t.front.highest) w → Stepping s left n t (after_kid w rest t.listed next t.end)
-  after_first_lem rest k next slot a c = onward rest k next slot a (into_first k next slot (counted_of rest) a c)
+    into_list : (counted_of t.places ≡ []) × ((counted_of x.1 ≡ []) × (listed_of t.places ≡ math.some (slot_of x.0))) → (kids : List (math.Option NodeId))
+        → kids_walk s left n t (math.some k ∷ kids) ≡ after (listed_of t.places) (counted_of x.1) kids
+    unfolding walk_kids entered
+    into_list o kids =
+        start o.0 o.1.1 (math.some k ∷ kids) ∙ (then_entered _ n _ (kid_fits (nodes_in s) (slot_of x.0) k t.front.highest) ∙ rw (o.1.0, o.1.1) refl)
 
-  pub after_item : (k : NodeId) (next : ℕ) (slot : Kinds.Slot) → After s t.kid t.end (some k) next → counted_of t.counted ≡ [] → listed_of t.listed ≡ some slot
-      → (w : Walked) → Walks s (entered (nodes_in s) left n slot k t.front.highest) w → Stepping s left n t (after_kid w Nothing t.listed next t.end)
-  after_item k next slot a c l = onward Nothing k next slot a (into_list k next slot a c l)
+    into : (kids : List (math.Option NodeId)) → kids_walk s left n t (math.some k ∷ kids) ≡ after (listed_of x.1) (counted_of x.1) kids
+    into kids =
+        elim e.0 [ inl c ↦ into_counted c kids | inr o ↦ into_list o kids ]
+        ∙ ap (λ l. after l (counted_of x.1) kids) (sym e.1)
 
--- ---- the code's own steps
-pub after_as : (counted : Counted) (listed : Listed) (kid end : ℕ) {v w : Walked} → v ≡ w → after_kid v counted listed kid end ≡ after_kid w counted listed kid end
-after_as counted listed kid end e = ap (λ w. after_kid w counted listed kid end) e
+    met_into : (front : Front) → Walks s (entered (nodes_in s) left n (slot_of x.0) k t.front.highest) (Ok front) → (kids : List (math.Option NodeId))
+        → on (counted_of x.1) (listed_of x.1) kids front.highest ≡ kids_walk s left n t (math.some k ∷ kids)
+    unfolding then_walk
+    met_into front h kids = sym (into kids ∙ ap (λ w. then_walk w (on (counted_of x.1) (listed_of x.1) kids)) (sym h.same))
 
-module _ (s : List ℕ) (left : ℕ) (n : NodeId) (t : Todo) (r : Step) (h : Stepping s left n t r) where
-  pub is_done : (w : Walked) → r ≡ Done w → Walks s (kids_walk s left n t) w
-  is_done w e = subst (Stepping s left n t) e h
+    stopped_into : (r : SheetRefused) → Walks s (entered (nodes_in s) left n (slot_of x.0) k t.front.highest) (Err r) → (kids : List (math.Option NodeId))
+        → stopped (number_of r.why) r.place ≡ kids_walk s left n t (math.some k ∷ kids)
+    unfolding then_walk
+    stopped_into r h kids = sym (into kids ∙ ap (λ w. then_walk w (on (counted_of x.1) (listed_of x.1) kids)) (sym h.same))
 
-  pub is_more : (u : Todo) → r ≡ More u → Goes s left n t u
-  is_more u e = subst (Stepping s left n t) e h
+  module _ (kid : Option ℕ) (k : ℕ) (z : kid ≡ Some k) (o : Option (Slot × Places)) (e : Opens t.places o) (x : Slot × Places) (a : o ≡ Some x) where
+    pub onward : (front : Front) → Walks s (entered (nodes_in s) left n (slot_of x.0) k t.front.highest) (Ok front)
+        → Steps s left n kid t (Ok (record { places = x.1; front = front }))
+    unfolding kids_walk
+    onward front h = ((λ kids. rw z (met_into k x (subst (Opens t.places) a e) front h kids)), h.moved)
 
--- the kids from somewhere on give what all of them give
-pub record Going (s : List ℕ) (left : ℕ) (n : NodeId) (t u : Todo) : Type 0 where
-  pub same : kids_walk s left n u ≡ kids_walk s left n t
+    pub stopped_in : (r : SheetRefused) → Walks s (entered (nodes_in s) left n (slot_of x.0) k t.front.highest) (Err r) → Steps s left n kid t (Err r)
+    stopped_in r h kids = rw z (stopped_into k x (subst (Opens t.places) a e) r h kids)
+
+-- some kids are walked: those that are left give what all of them give
+pub record Going (s : List ℕ) (nodes left : ℕ) (n : NodeId) (t : Todo) (v : List ℕ) (u : Todo) (w : List ℕ) : Type 0 where
+  pub kids : Kids w
+  pub low : all_below nodes (kids_in w) ≡ true
+  pub same : kids_walk s left n u (kids_in w) ≡ kids_walk s left n t (kids_in v)
   pub ready : TodoStands s u
 
-pub going_none : {s : List ℕ} {left : ℕ} {n : NodeId} {t : Todo} → TodoStands s t → Going s left n t t
-going_none r = record { same = refl; ready = r }
+module _ (nodes : ℕ) (v : List ℕ) (kid : Option ℕ) (w : List ℕ) (a : After v kid w) (h : all_below nodes (kids_in v) ≡ true) where
+  these : all_below nodes (kid_of kid ∷ kids_in w) ≡ true
+  these = rw (← a.same) h
 
-pub going_more : {s : List ℕ} {left : ℕ} {n : NodeId} {t u v : Todo} → Going s left n t u → Goes s left n u v → Going s left n t v
-going_more g h = record { same = h.same ∙ g.same; ready = h.ready }
+  pub low_kid : (k : ℕ) → kid ≡ Some k → k < nodes
+  low_kid k e = below_head nodes k (kids_in w) (rw e at these)
 
-pub steps_as : (s : List ℕ) (left : ℕ) (n : NodeId) (t : Todo) {q r : Step} → r ≡ q → Stepping s left n t q → Stepping s left n t r
-steps_as s left n t e h = subst (Stepping s left n t) (sym e) h
+  pub low_rest : all_below nodes (kids_in w) ≡ true
+  unfolding all_below
+  low_rest = rest kid these
+    where
+      rest : (kid : Option ℕ) → all_below nodes (kid_of kid ∷ kids_in w) ≡ true → all_below nodes (kids_in w) ≡ true
+      rest None h = h
+      rest (Some k) h = and_elim_right (ltb k nodes) (all_below nodes (kids_in w)) h
+
+pub going_none : {s : List ℕ} {nodes left : ℕ} {n : NodeId} {t : Todo} {v : List ℕ} → Kids v → all_below nodes (kids_in v) ≡ true → TodoStands s t → Going s nodes left n t v t v
+going_none k l r = record { kids = k; low = l; same = refl; ready = r }
+
+module _ {s : List ℕ} {nodes left : ℕ} {n : NodeId} {t u : Todo} {v w : List ℕ} (g : Going s nodes left n t v u w) where
+  pub going_more : (kid : Option ℕ) (x : List ℕ) → After w kid x → (m : Todo) → Steps s left n kid u (Ok m) → Going s nodes left n t v m x
+  going_more kid x a m h =
+      record {
+        kids = a.others;
+        low = low_rest nodes w kid x a g.low;
+        same = h.0 (kids_in x) ∙ (ap (kids_walk s left n u) (sym a.same) ∙ g.same);
+        ready = h.1;
+      }
+
+  pub going_stops : (kid : Option ℕ) (x : List ℕ) → After w kid x → (r : SheetRefused) → Steps s left n kid u (Err r) → Walks s (kids_walk s left n t (kids_in v)) (Err r)
+  going_stops kid x a r h = record { same = h (kids_in x) ∙ (ap (kids_walk s left n u) (sym a.same) ∙ g.same); moved = tt }
+
+  pub going_ends : kids_in w ≡ [] → Walks s (kids_walk s left n t (kids_in v)) (Ok u.front)
+  going_ends e = walks_as g.same (ended s left n u w e g.ready)

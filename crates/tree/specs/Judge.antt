@@ -1,13 +1,11 @@
 -- What the answer about a whole tree says.
-use Rattle.std.specs.Prelude.{◌≡◌, List, ℕ, ◌+◌, length, eqb, if◌then◌else◌}
-use Rattle.spec.specs.Sheet.{accepted, read_sheet}
+use Rattle.std.specs.Prelude.{◌≡◌, List, ℕ, length, Result, Ok, Err}
+use Rattle.spec.specs.Sheet.{Judged, accepted, refused, read_sheet}
+use Rattle.refusals.specs.Numbers.{number_of}
 use Rattle.sheet.specs.Sheets.{first_node}
 use Rattle.sheet.specs.declared.position.Position.{Position}
-use Rattle.sheet.specs.declared.sheets.SheetRead.{SheetRead}
-use Rattle.sheet.specs.declared.sheets.SheetRead.TheVariants.{Accepted, Refused}
 use Rattle.tree.specs.Nodes.{nodes_in}
-use Rattle.tree.specs.declared.walk.Walked.{Walked}
-use Rattle.tree.specs.declared.walk.Walked.TheVariants.{Met, Stopped}
+use Rattle.sheet.specs.declared.faults.SheetRefused.{SheetRefused}
 
 -- the lines of the sheet were accepted: so many nodes, the first at the position
 pub record Nodes (s : List ℕ) (nodes : ℕ) (first : Position) : Type 0 where
@@ -15,7 +13,7 @@ pub record Nodes (s : List ℕ) (nodes : ℕ) (first : Position) : Type 0 where
   pub count : nodes ≡ length (nodes_in s)
   pub start : first ≡ first_node s
 
--- 7: all nodes are met
-abbrev pub tree_answer : ℕ → Position → Walked → SheetRead
-tree_answer nodes first (Met front) = if eqb (front.highest + 1) nodes then Accepted nodes first else Refused 7 (front.highest + 1)
-tree_answer nodes first (Stopped number place) = Refused number place
+-- what is told of the tree of accepted lines
+abbrev pub told : {A : Type 0} → List ℕ → Result A SheetRefused → Judged
+told s (Ok x) = accepted (nodes_in s)
+told s (Err r) = refused (number_of r.why) r.place

@@ -1,33 +1,36 @@
 -- The code's places as those of the definitions.
-use Rattle.std.specs.Prelude.{◌≡◌, List, [], ◌∷◌}
-use Rattle.std.proofs.Math.Option.{Option, none, some}
+use Rattle.std.specs.Prelude.{◌≡◌, ◌⊎◌, List, [], ◌∷◌, map, Option, Some, None}
+use Rattle.std.proofs.Math.Option as math
 use Rattle.spec.specs.Kinds as Kinds
 use Rattle.tree.specs.Slots.{slot_of}
-use Rattle.tree.specs.declared.places.Counted.{Counted}
-use Rattle.tree.specs.declared.places.Counted.TheVariants as counted
-use Rattle.tree.specs.declared.places.Listed.{Listed}
-use Rattle.tree.specs.declared.places.Listed.TheVariants as listed
+use Rattle.tree.specs.declared.slots.Slot.{Slot}
 use Rattle.tree.specs.declared.places.Places.{Places}
-use Rattle.tree.specs.declared.places.Place.{Place}
-use Rattle.tree.specs.declared.places.Place.TheVariants.{First, Item, Outside}
 
-abbrev pub counted_of : Counted → List Kinds.Slot
-counted_of counted.Nothing = []
-counted_of (counted.One a) = slot_of a ∷ []
-counted_of (counted.Two a b) = slot_of a ∷ slot_of b ∷ []
-counted_of (counted.Three a b c) = slot_of a ∷ slot_of b ∷ slot_of c ∷ []
+-- the counted places
+abbrev pub counted_of : Places → List Kinds.Slot
+counted_of p = map slot_of p.counted.now
 
-abbrev pub listed_of : Listed → Option Kinds.Slot
-listed_of listed.Nothing = none
-listed_of (listed.Each a) = some (slot_of a)
+-- what the list takes
+abbrev pub listed_in : Option Slot → math.Option Kinds.Slot
+listed_in None = math.none
+listed_in (Some x) = math.some (slot_of x)
+
+abbrev pub listed_of : Places → math.Option Kinds.Slot
+listed_of p = listed_in p.listed
 
 -- these are the places of the kind
 pub record Fills (p : Places) (k : Kinds.Kind) : Type 0 where
-  pub counted : counted_of p.counted ≡ k.counted
-  pub listed : listed_of p.listed ≡ k.listed
+  pub counted : counted_of p ≡ k.counted
+  pub listed : listed_of p ≡ k.listed
 
--- where the next kid goes
-abbrev pub Opens : List Kinds.Slot → Option Kinds.Slot → Place → Type 0
-Opens counted listed (First slot rest) = counted ≡ slot_of slot ∷ counted_of rest
-Opens counted listed (Item slot) = (counted ≡ []) × (listed ≡ some (slot_of slot))
-Opens counted listed Outside = (counted ≡ []) × (listed ≡ none)
+-- what is left after a counted place; none is left to skip
+abbrev pub Skips : Places → Option Places → Type 0
+Skips p None = counted_of p ≡ []
+Skips p (Some q) = ((slot : Kinds.Slot) × (counted_of p ≡ slot ∷ counted_of q)) × (listed_of q ≡ listed_of p)
+
+-- the slot of the next kid, and what is left after it; nothing is open
+abbrev pub Opens : Places → Option (Slot × Places) → Type 0
+Opens p None = (counted_of p ≡ []) × (listed_of p ≡ math.none)
+Opens p (Some x) =
+    ((counted_of p ≡ slot_of x.0 ∷ counted_of x.1) ⊎ ((counted_of p ≡ []) × ((counted_of x.1 ≡ []) × (listed_of p ≡ math.some (slot_of x.0)))))
+    × (listed_of x.1 ≡ listed_of p)

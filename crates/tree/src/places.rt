@@ -1,143 +1,134 @@
 // The places of the kids of each kind.
-ghost use Rattle.std.specs.Prelude.{◌≡◌, true, [], eqb, leb, length, if◌then◌else◌};
+ghost use Rattle.std.specs.Prelude.{◌≡◌, true, eqb, leb, if◌then◌else◌, None, Some};
 ghost use Rattle.spec.specs.Kinds.{kind_of};
 ghost use Rattle.spec.specs.Tree.{count_fits};
-ghost use Rattle.tree.specs.Places.{counted_of, listed_of, Fills, Opens};
+ghost use Rattle.module.specs.SyntaxKinds.{number_of_syntax};
+ghost use Rattle.tree.specs.Places.{Fills, Skips, Opens};
 
 use crate::slots::Slot;
+use module::SyntaxKind;
 
-// The counted places that are still to fill.
-#[derive(Clone, Copy)]
-pub enum Counted {
-    Nothing,
-    One(Slot),
-    Two(Slot, Slot),
-    Three(Slot, Slot, Slot),
-}
-
-// What a list after them takes.
-#[derive(Clone, Copy)]
-pub enum Listed {
-    Nothing,
-    Each(Slot),
-}
-
-// The places of a node's kids.
+// The places of a node's kids that are still to fill: counted ones, and what a list after them takes.
 #[derive(Clone, Copy)]
 pub struct Places {
-    pub counted: Counted,
-    pub listed: Listed,
-}
-
-// Counted places alone.
-fn only(counted: Counted) -> Places
-    ensures { (result.counted ≡ counted) × (result.listed ≡ Listed.Nothing) }
-{
-    Places {
-        counted,
-        listed: Listed::Nothing,
-    }
-}
-
-// Counted places, and a list after them.
-fn then_each(counted: Counted, slot: Slot) -> Places
-    ensures { (result.counted ≡ counted) × (result.listed ≡ Listed.Each slot) }
-{
-    Places {
-        counted,
-        listed: Listed::Each(slot),
-    }
-}
-
-// The places of a kind.
-pub fn places_of(kind: u32) -> Places
-    ensures { Fills result (kind_of kind) }
-{
-    match kind {
-        1 | 4 | 14 | 19 => only(Counted::Two(Slot::Expression, Slot::Expression)),
-        2 => only(Counted::Three(Slot::Expression, Slot::Expression, Slot::Expression)),
-        3 => only(Counted::Three(Slot::Expression, Slot::Path, Slot::Expression)),
-        5 => only(Counted::Two(Slot::Expression, Slot::Path)),
-        6 => then_each(Counted::Nothing, Slot::Part),
-        7 => then_each(Counted::Nothing, Slot::Part),
-        11 => only(Counted::Two(Slot::Parameter, Slot::Expression)),
-        12 => then_each(Counted::One(Slot::Expression), Slot::Entry),
-        13 => then_each(Counted::Nothing, Slot::Expression),
-        15 | 17 | 21 | 24 | 27 | 33 => only(Counted::One(Slot::Expression)),
-        16 => then_each(Counted::Nothing, Slot::Entry),
-        23 => then_each(Counted::Nothing, Slot::Attribute),
-        25 => only(Counted::Two(Slot::Path, Slot::Expression)),
-        26 => then_each(Counted::One(Slot::From), Slot::Attribute),
-        28 | 30 => only(Counted::One(Slot::Ident)),
-        29 => then_each(Counted::One(Slot::Bind), Slot::PatternEntry),
-        31 => only(Counted::Two(Slot::Ident, Slot::Expression)),
-        _ => only(Counted::Nothing),
-    }
-}
-
-// Where the next kid goes: into the first counted place, which leaves the others; else into the list.
-#[derive(Clone, Copy)]
-pub enum Place {
-    First(Slot, Counted),
-    Item(Slot),
-    Outside,
-}
-
-// The counted places are full.
-fn list_place(listed: Listed) -> Place
-    ensures { Opens [] (listed_of listed) result }
-{
-    match listed {
-        Listed::Each(slot) => Place::Item(slot),
-        Listed::Nothing => Place::Outside,
-    }
-}
-
-pub fn place_of(counted: Counted, listed: Listed) -> Place
-    ensures { Opens (counted_of counted) (listed_of listed) result }
-{
-    match counted {
-        Counted::Three(slot, second, third) => Place::First(slot, Counted::Two(second, third)),
-        Counted::Two(slot, second) => Place::First(slot, Counted::One(second)),
-        Counted::One(slot) => Place::First(slot, Counted::Nothing),
-        Counted::Nothing => list_place(listed),
-    }
-}
-
-// How many counted places there are.
-fn size(counted: Counted) -> usize
-    ensures { result ≡ length (counted_of counted) }
-{
-    match counted {
-        Counted::Nothing => 0,
-        Counted::One(_) => 1,
-        Counted::Two(_, _) => 2,
-        Counted::Three(_, _, _) => 3,
-    }
+    pub counted: &'static [Slot],
+    pub listed: Option<Slot>,
 }
 
 // A path has at most 16 attributes.
-fn short_enough(kind: u32, kids: usize) -> bool
-    ensures { result ≡ (if eqb kind 23 then leb kids 16 else true) }
+#[tactic(auto, unfolding(module::specs::SyntaxKinds::number_of_syntax))]
+fn short_enough(kind: SyntaxKind, kids: usize) -> bool
+    ensures { result ≡ (if eqb (number_of_syntax kind) 23 then leb kids 16 else true) }
 {
-    if kind == 23 { kids <= 16 } else { true }
+    match kind {
+        SyntaxKind::Attrpath => kids <= 16,
+        _ => true,
+    }
 }
 
-// Whether a node of the kind, which has these places, may have so many kids.
-pub fn count_fits(kind: u32, places: Places, kids: usize) -> bool
-    requires { Fills places (kind_of kind) }
-    ensures { result ≡ count_fits kind kids }
-{
-    let counted = places.counted;
-    let listed = places.listed;
-    let least = size(counted);
-    match listed {
-        Listed::Nothing => kids == least,
-        Listed::Each(_) => {
-            if kids < least {
-                return false;
+impl Places {
+    // Counted places alone.
+    fn only(counted: &'static [Slot]) -> Places
+        ensures { (result.counted.now ≡ counted.now) × (result.listed ≡ None) }
+    {
+        Places {
+            counted,
+            listed: None,
+        }
+    }
+
+    // Counted places, and a list after them.
+    fn then_each(counted: &'static [Slot], slot: Slot) -> Places
+        ensures { (result.counted.now ≡ counted.now) × (result.listed ≡ Some slot) }
+    {
+        Places {
+            counted,
+            listed: Some(slot),
+        }
+    }
+
+    // All places of a kind.
+    #[tactic(auto, unfolding(spec::specs::Kinds::kind_of, spec::specs::Kinds::kinds, module::specs::SyntaxKinds::number_of_syntax, crate::specs::Slots::slot_of))]
+    pub fn of(kind: SyntaxKind) -> Places
+        ensures { Fills result (kind_of (number_of_syntax kind)) }
+    {
+        match kind {
+            SyntaxKind::Apply | SyntaxKind::With | SyntaxKind::BinOp | SyntaxKind::Assert => {
+                Places::only(&[Slot::Expression, Slot::Expression])
             }
-            short_enough(kind, kids)
+            SyntaxKind::IfElse => Places::only(&[
+                Slot::Expression,
+                Slot::Expression,
+                Slot::Expression,
+            ]),
+            SyntaxKind::Select => Places::only(&[Slot::Expression, Slot::Path, Slot::Expression]),
+            SyntaxKind::HasAttr => Places::only(&[Slot::Expression, Slot::Path]),
+            SyntaxKind::Str | SyntaxKind::Path => Places::then_each(&[], Slot::Part),
+            SyntaxKind::Lambda => Places::only(&[Slot::Parameter, Slot::Expression]),
+            SyntaxKind::LetIn => Places::then_each(&[Slot::Expression], Slot::Entry),
+            SyntaxKind::List => Places::then_each(&[], Slot::Expression),
+            SyntaxKind::Paren
+            | SyntaxKind::UnaryOp
+            | SyntaxKind::Root
+            | SyntaxKind::Dynamic
+            | SyntaxKind::InheritFrom
+            | SyntaxKind::Interpolation => Places::only(&[Slot::Expression]),
+            SyntaxKind::AttrSet => Places::then_each(&[], Slot::Entry),
+            SyntaxKind::Attrpath => Places::then_each(&[], Slot::Attribute),
+            SyntaxKind::AttrpathValue => Places::only(&[Slot::Path, Slot::Expression]),
+            SyntaxKind::Inherit => Places::then_each(&[Slot::From], Slot::Attribute),
+            SyntaxKind::IdentParam | SyntaxKind::PatBind => Places::only(&[Slot::Ident]),
+            SyntaxKind::Pattern => Places::then_each(&[Slot::Bind], Slot::PatternEntry),
+            SyntaxKind::PatEntry => Places::only(&[Slot::Ident, Slot::Expression]),
+            SyntaxKind::Float
+            | SyntaxKind::Integer
+            | SyntaxKind::Uri
+            | SyntaxKind::Ident
+            | SyntaxKind::Error
+            | SyntaxKind::LegacyLet
+            | SyntaxKind::LiteralPart => Places::only(&[]),
+        }
+    }
+
+    // The places after a counted one that stays empty. Only a counted one may.
+    pub fn skip(self) -> Option<Places>
+        ensures { Skips self result }
+    {
+        match self.counted {
+            [_, counted @ ..] => Some(Places {
+                counted,
+                listed: self.listed,
+            }),
+            [] => None,
+        }
+    }
+
+    // The slot that the next kid goes into, and the places that are left then: the first counted one, else the list,
+    // which takes any number.
+    pub fn fill(self) -> Option<(Slot, Places)>
+        ensures { Opens self result }
+    {
+        match self.counted {
+            [slot, counted @ ..] => Some((
+                *slot,
+                Places {
+                    counted,
+                    listed: self.listed,
+                },
+            )),
+            [] => Some((self.listed?, self)),
+        }
+    }
+
+    // Whether a node of the kind, whose places these are, may have so many kids.
+    pub fn fit(self, kind: SyntaxKind, kids: usize) -> bool
+        requires { Fills self (kind_of (number_of_syntax kind)) }
+        ensures { result ≡ count_fits (number_of_syntax kind) kids }
+    {
+        let least = self.counted.len();
+        match self.listed {
+            None => kids == least,
+            Some(_) => kids >= least && short_enough(kind, kids),
         }
     }
 }

@@ -1,10 +1,13 @@
 // Which kinds of node a place takes.
 ghost use Rattle.std.specs.Prelude.{◌≡◌};
 ghost use Rattle.spec.specs.Kinds as Kinds;
-ghost use Rattle.tree.specs.Slots.{slot_of, slot_number, string_taken};
+ghost use Rattle.module.specs.SyntaxKinds.{number_of_syntax};
+ghost use Rattle.tree.specs.Slots.{slot_of};
+
+use module::SyntaxKind;
 
 // What a place is for.
-#[derive(Clone, Copy)]
+#[derive(Clone, Copy, PartialEq, Eq)]
 pub enum Slot {
     Expression,
     Path,
@@ -18,51 +21,31 @@ pub enum Slot {
     PatternEntry,
 }
 
-// The slots by number, so that two can be compared.
-fn number(slot: Slot) -> u32
-    ensures { result ≡ slot_number slot }
-{
-    match slot {
-        Slot::Expression => 0,
-        Slot::Path => 1,
-        Slot::Attribute => 2,
-        Slot::Entry => 3,
-        Slot::Part => 4,
-        Slot::Parameter => 5,
-        Slot::From => 6,
-        Slot::Ident => 7,
-        Slot::Bind => 8,
-        Slot::PatternEntry => 9,
+impl Slot {
+    // Whether the slot takes a node of this kind. The kind decides, since it is the child that is met.
+    #[tactic(auto, unfolding(crate::specs::Slots::slot_of))]
+    pub fn takes(self, kind: SyntaxKind) -> bool
+        ensures { result ≡ Kinds.takes (slot_of self) (number_of_syntax kind) }
+    {
+        match kind {
+            SyntaxKind::Str => matches!(self, Slot::Expression | Slot::Attribute),
+            SyntaxKind::Ident => matches!(self, Slot::Expression | Slot::Attribute | Slot::Ident),
+            SyntaxKind::Attrpath => self == Slot::Path,
+            SyntaxKind::Dynamic => self == Slot::Attribute,
+            SyntaxKind::AttrpathValue | SyntaxKind::Inherit => self == Slot::Entry,
+            SyntaxKind::InheritFrom => self == Slot::From,
+            SyntaxKind::IdentParam | SyntaxKind::Pattern => self == Slot::Parameter,
+            SyntaxKind::PatBind => self == Slot::Bind,
+            SyntaxKind::PatEntry => self == Slot::PatternEntry,
+            SyntaxKind::LiteralPart | SyntaxKind::Interpolation => self == Slot::Part,
+            _ => self == Slot::Expression,
+        }
     }
 }
 
-// What takes a string: a slot for an expression or for an attribute.
-fn takes_string(wanted: u32) -> bool
-    ensures { result ≡ string_taken wanted }
-{
-    if wanted == 0 {
-        return true;
-    }
-    wanted == 2
-}
-
-// Whether the slot takes a node of this kind. The kind decides, since it is the child that is met.
+// The same of the number of a kind. No slot takes a number that is no kind.
 pub fn takes(slot: Slot, kind: u32) -> bool
     ensures { result ≡ Kinds.takes (slot_of slot) kind }
 {
-    let wanted = number(slot);
-    match kind {
-        6 => takes_string(wanted),
-        18 => wanted == 7 || takes_string(wanted),
-        1..=22 => wanted == 0,
-        23 => wanted == 1,
-        24 => wanted == 2,
-        25..=26 => wanted == 3,
-        27 => wanted == 6,
-        28..=29 => wanted == 5,
-        30 => wanted == 8,
-        31 => wanted == 9,
-        32..=33 => wanted == 4,
-        _ => false,
-    }
+    SyntaxKind::of(kind).is_some_and(|kind| slot.takes(kind))
 }

@@ -2,16 +2,19 @@
 //
 // The nodes stand in the sheet in the order in which the walk meets them, or the walk is refused. So
 // it reads the sheet forward, and all that it remembers is the highest node met and the place after it.
-ghost use Rattle.std.specs.Prelude.{◌≡◌, ◌+◌, ◌<◌, length};
+ghost use Rattle.std.specs.Prelude.{◌≡◌, true, ◌+◌, ◌<◌, length};
+ghost use Rattle.std.specs.Option.{ForSome};
+ghost use Rattle.spec.specs.Sheet.{all_below};
 ghost use Rattle.spec.specs.Tree.{walk_to};
 ghost use Rattle.tree.specs.Slots.{slot_of};
-ghost use Rattle.tree.specs.Nodes.{nodes_in, Stands, Read};
-ghost use Rattle.tree.specs.Walk.{Walks, entered, kids_walk, TodoStands, Stepping, after_kid};
+ghost use Rattle.tree.specs.Nodes.{nodes_in, Stands, kids_in, Kids, Read};
+ghost use Rattle.tree.specs.Walk.{Walks, entered, kids_walk, TodoStands, Steps};
 
-use crate::nodes::{Kid, Lines, count_kids, kid_at, lines_of};
-use crate::places::{Counted, Listed, Place, count_fits, place_of, places_of};
-use crate::slots::{Slot, takes};
-use sheet::Position;
+use crate::nodes::{Lines, Tree, count_kids, first_kid};
+use crate::places::Places;
+use crate::slots::Slot;
+use refusals::Refusal;
+use sheet::{Position, SheetRefused};
 
 // The highest node met, and the place of the node after it.
 #[derive(Clone, Copy)]
@@ -20,154 +23,107 @@ pub struct Front {
     pub next: Position,
 }
 
-// How far a walk has come; or the number of the refusal that stopped it, and the parent node.
-#[derive(Clone, Copy)]
-pub enum Walked {
-    Met(Front),
-    Stopped(u32, u32),
-}
-
-// What is left of a node's kids, and of its places.
+// The places that are left for a node's other kids, and how far the walk has come.
 #[derive(Clone, Copy)]
 pub struct Todo {
-    pub counted: Counted,
-    pub listed: Listed,
-    pub kid: usize,
-    pub end: usize,
+    pub places: Places,
     pub front: Front,
 }
 
-// What a step leads to.
-#[derive(Clone, Copy)]
-pub enum Step {
-    More(Todo),
-    Done(Walked),
-}
-
-// What is to do after a kid that was walked.
-fn after_kid(walked: Walked, counted: Counted, listed: Listed, kid: usize, end: usize) -> Step
-    ensures { result ≡ after_kid walked counted listed kid end }
+// The node n is refused as a parent.
+fn at_parent(why: Refusal, n: u32) -> SheetRefused
+    ensures { (result.why ≡ why) × (result.place ≡ n) }
 {
-    match walked {
-        Walked::Met(front) => Step::More(Todo {
-            counted,
-            listed,
-            kid,
-            end,
-            front,
-        }),
-        Walked::Stopped(number, place) => Step::Done(Walked::Stopped(number, place)),
+    SheetRefused {
+        why,
+        place: n as usize,
     }
 }
 
-// The kid k of the node n, which goes into the slot: the place and the kind are judged before the depth.
-#[cycle(walk)]
-fn enter(s: &[u8], nodes: u32, n: u32, left: u32, k: u32, slot: Slot, front: Front) -> Walked
-    requires { (nodes ≡ length (nodes_in s.now)) × ((k < nodes) × Stands s.now (front.highest + 1) front.next.at) }
-    ensures { Walks s.now (entered (nodes_in s.now) left n (slot_of slot) k front.highest) result }
-{
-    let highest = front.highest;
-    let next = front.next;
-    if k != highest + 1 {
-        return Walked::Stopped(5, n);
-    }
-    let lines = lines_of(s, nodes, k, next);
-    let kind = lines.kind;
-    if !takes(slot, kind) {
-        return Walked::Stopped(5, n);
-    }
-    if left == 0 {
-        return Walked::Stopped(6, n);
-    }
-    walk(s, nodes, k, left - 1, lines)
-}
-
-// The first of the kids that are left.
-#[cycle(walk)]
-fn walk_kid(s: &[u8], nodes: u32, n: u32, left: u32, todo: Todo) -> Step
-    requires { (nodes ≡ length (nodes_in s.now)) × TodoStands s.now todo }
-    ensures { Stepping s.now left n todo result }
-{
-    let counted = todo.counted;
-    let listed = todo.listed;
-    let end = todo.end;
-    let front = todo.front;
-    let place = place_of(counted, listed);
-    match kid_at(s, todo.kid, end) {
-        Kid::End => Step::Done(Walked::Met(front)),
-        Kid::Absent(next) => match place {
-            Place::First(_, rest) => Step::More(Todo {
-                counted: rest,
-                listed,
-                kid: next,
-                end,
-                front,
-            }),
-            Place::Item(_) => Step::Done(Walked::Stopped(5, n)),
-            Place::Outside => Step::Done(Walked::Stopped(5, n)),
-        },
-        Kid::Number(k, next) => match place {
-            Place::First(slot, rest) => {
-                let walked = enter(s, nodes, n, left, k, slot, front);
-                after_kid(walked, rest, listed, next, end)
-            }
-            Place::Item(slot) => {
-                let walked = enter(s, nodes, n, left, k, slot, front);
-                after_kid(walked, Counted::Nothing, listed, next, end)
-            }
-            Place::Outside => Step::Done(Walked::Stopped(5, n)),
-        },
-    }
-}
-
-// All kids that are left.
-#[cycle(walk)]
-fn walk_kids(s: &[u8], nodes: u32, n: u32, left: u32, todo: Todo) -> Walked
-    requires { (nodes ≡ length (nodes_in s.now)) × TodoStands s.now todo }
-    ensures { Walks s.now (kids_walk s.now left n todo) result }
-{
-    let mut rest = todo;
-    loop {
-        match walk_kid(s, nodes, n, left, rest) {
-            Step::Done(walked) => {
-                return walked;
-            }
-            Step::More(more) => {
-                rest = more;
-            }
+impl Tree<'_> {
+    // The kid k of the node n, which goes into the slot: the place and the kind are judged before the depth.
+    #[cycle(walk)]
+    fn enter(
+        self,
+        n: u32,
+        left: u32,
+        k: u32,
+        slot: Slot,
+        front: Front,
+    ) -> Result<Front, SheetRefused>
+        requires { (k < self.nodes) × Stands self.sheet.now (front.highest + 1) front.next.at }
+        ensures { Walks self.entry.sheet.now (entered (nodes_in self.entry.sheet.now) left n (slot_of slot) k front.highest) result }
+    {
+        if k != front.highest + 1 {
+            return Err(at_parent(Refusal::MisplacedKid, n));
         }
+        let lines = self.lines(k, front.next);
+        if !slot.takes(lines.kind) {
+            return Err(at_parent(Refusal::MisplacedKid, n));
+        }
+        if left == 0 {
+            return Err(at_parent(Refusal::TooDeep, n));
+        }
+        self.walk(k, left - 1, lines)
     }
-}
 
-// The node n, whose lines were read, and all below it, with so many levels left.
-#[cycle(walk)]
-pub fn walk(s: &[u8], nodes: u32, n: u32, left: u32, lines: Lines) -> Walked
-    requires { (nodes ≡ length (nodes_in s.now)) × Read s.now n lines }
-    ensures { Walks s.now (walk_to (nodes_in s.now) left n) result }
-{
-    let kind = lines.kind;
-    let kid = lines.kids;
-    let end = lines.end;
-    let next = lines.next;
-    let places = places_of(kind);
-    let kids = count_kids(s, kid, end);
-    if !count_fits(kind, places, kids) {
-        return Walked::Stopped(4, n);
+    // The next kid of the node n, or an absent one: only a counted place may stay empty.
+    #[cycle(walk)]
+    fn walk_kid(self, n: u32, left: u32, kid: Option<u32>, todo: Todo) -> Result<Todo, SheetRefused>
+        requires { ForSome kid (λ k. k < self.nodes) × TodoStands self.sheet.now todo }
+        ensures { Steps self.entry.sheet.now left n kid todo result }
+    {
+        let Some(k) = kid else {
+            let places = todo
+                .places
+                .skip()
+                .ok_or(at_parent(Refusal::MisplacedKid, n))?;
+            return Ok(Todo {
+                places,
+                front: todo.front,
+            });
+        };
+        let (slot, places) = todo
+            .places
+            .fill()
+            .ok_or(at_parent(Refusal::MisplacedKid, n))?;
+        let front = self.enter(n, left, k, slot, todo.front)?;
+        Ok(Todo { places, front })
     }
-    let counted = places.counted;
-    let listed = places.listed;
-    let front = Front { highest: n, next };
-    walk_kids(
-        s,
-        nodes,
-        n,
-        left,
-        Todo {
-            counted,
-            listed,
-            kid,
-            end,
-            front,
-        },
-    )
+
+    // All kids of the node n, in order.
+    #[cycle(walk)]
+    fn walk_kids(
+        self,
+        n: u32,
+        left: u32,
+        mut kids: &[u8],
+        mut todo: Todo,
+    ) -> Result<Front, SheetRefused>
+        requires { Kids kids.now × ((all_below self.nodes (kids_in kids.now) ≡ true) × TodoStands self.sheet.now todo) }
+        ensures { Walks self.entry.sheet.now (kids_walk self.entry.sheet.now left n todo (kids_in kids.now)) result }
+    {
+        while let Some((kid, rest)) = first_kid(kids) {
+            todo = self.walk_kid(n, left, kid, todo)?;
+            kids = rest;
+        }
+        Ok(todo.front)
+    }
+
+    // The node n, whose lines were read, and all below it, with so many levels left.
+    #[cycle(walk)]
+    pub fn walk(self, n: u32, left: u32, lines: Lines) -> Result<Front, SheetRefused>
+        requires { Read self.sheet.now n lines }
+        ensures { Walks self.entry.sheet.now (walk_to (nodes_in self.entry.sheet.now) left n) result }
+    {
+        let places = Places::of(lines.kind);
+        if !places.fit(lines.kind, count_kids(lines.kids)) {
+            return Err(at_parent(Refusal::WrongArity, n));
+        }
+        let front = Front {
+            highest: n,
+            next: lines.next,
+        };
+        self.walk_kids(n, left, lines.kids, Todo { places, front })
+    }
 }

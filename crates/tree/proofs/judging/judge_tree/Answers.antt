@@ -1,13 +1,18 @@
 -- `tree::judging::judge_tree` meets its contract.
-use Rattle.tree.proofs.JudgeLaws.{some_nodes, root_stands, tree_judged}
-use mathlib.Core.Path.{◌∙◌}
+use Rattle.std.proofs.lemmas.Result.{err_from_is_err_and}
+use Rattle.tree.proofs.JudgeLaws.{some_nodes, root_stands, stopped_tree, met_all, met_few}
 use Rattle.tree.proofs.judging.judge_tree.Goals as goal
 
-pub lines_of-root-requires : goal.lines_of-root-requires
-lines_of-root-requires c = (c.requires.count, (some_nodes _ _ _ c.requires, root_stands _ _ _ c.requires))
+pub lines-root-requires : goal.lines-root-requires
+lines-root-requires c = (some_nodes _ _ _ c.requires, root_stands _ _ _ c.requires)
 
-pub walk-walked-requires : goal.walk-walked-requires
-walk-walked-requires c = (c.requires.count, c.lines_of-root.ensures)
+pub returns-in_err-front : goal.returns-in_err-front
+returns-in_err-front c =
+    let p = err_from_is_err_and c.from_residual.result c.from_residual.ensures.1 in
+    rw (p.1, p.2) (stopped_tree _ _ _ c.requires _ c.in_err-front.ensures)
+
+pub returns-then-next-nodes : goal.returns-then-next-nodes
+returns-then-next-nodes c = met_few _ _ _ c.requires _ c.in_ok-front.ensures c.if-next-nodes.true
 
 pub returns : goal.returns
-returns c = c.all_met.ensures ∙ tree_judged _ _ _ c.requires _ c.walk-walked.ensures
+returns c = met_all _ _ _ c.requires _ c.in_ok-front.ensures c.if-next-nodes.false

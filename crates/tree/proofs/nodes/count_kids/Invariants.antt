@@ -1,11 +1,10 @@
--- The loops of `tree::nodes::count_kids`.
-use Prim.Native.Nat.{◌-◌}
+-- The loop in `tree::nodes::count_kids`.
+use Rattle.std.proofs.Common.{length}
 use Rattle.tree.proofs.NodeLaws.{Counting}
-use lib.ListN.{length}
 use Rattle.tree.proofs.nodes.count_kids.Given as goal
 
-abbrev pub invariant-loop-next : goal.invariant-loop-next
-invariant-loop-next l = Counting l.s l.start l.end l.count l.at
+abbrev pub invariant-loop-rest : goal.invariant-loop-rest
+invariant-loop-rest l = Counting l.kids l.count l.left
 
-abbrev pub decreases-loop-next : goal.decreases-loop-next
-decreases-loop-next l = length l.s - l.at
+abbrev pub decreases-loop-rest : goal.decreases-loop-rest
+decreases-loop-rest l = length l.left
