@@ -21,12 +21,7 @@ use Rattle.sheet.specs.Numbers.{got_number}
 use Rattle.sheet.specs.Nodes.{node_of, got_node, FormedSpans, FormedNode}
 use Rattle.sheet.proofs.NodeLaws.{number_by, number_inside}
 use Rattle.sheet.specs.declared.position.Position.{Position}
-use Rattle.sheet.specs.declared.position.Fault.{Fault}
 use Rattle.sheet.specs.declared.nodes.Node as row
-use Rattle.sheet.specs.declared.nodes.NodeRead.{NodeRead}
-use Rattle.sheet.specs.declared.nodes.NodeRead.TheVariants as read
-use Rattle.sheet.specs.declared.numbers.NumberRead.{NumberRead}
-use Rattle.sheet.specs.declared.numbers.NumberRead.TheVariants as number
 use Rattle.layout.specs.Layout.{node_limit, kid_limit, sheet_text_limit, node_row, texts_place, node_count, nodes_at, kids_at, texts_at, store_bytes, Long}
 use Rattle.layout.specs.Rows.{rows_to}
 use Rattle.layout.specs.Texts.{texts_used, text_in}
@@ -36,12 +31,10 @@ use Rattle.spec.specs.Tree.{kid_places}
 use Rattle.spec.proofs.reading.Lines.{number_within}
 use Rattle.spec.proofs.general.Sums.{sum_append}
 use Rattle.spec.proofs.room.TextRoom.{text_bytes, node_long}
+use Rattle.std.specs.Prelude as rust
+use Rattle.sheet.specs.declared.faults.Refused.{Refused}
 use Rattle.intake.specs.Bring.{Within, kids_in, Spans, Rows, RowIn, RowOver, RowBrought, ahead, Bringing, Refuses, NodeIn, Stopped, NodeBrought, Counted, AllIn, AllBrought, Brought}
 use Rattle.intake.specs.declared.bring.Front.{Front}
-use Rattle.intake.specs.declared.bring.Room.{Room}
-use Rattle.intake.specs.declared.bring.Room.TheVariants as room
-use Rattle.intake.specs.declared.bring.Step.{Step}
-use Rattle.intake.specs.declared.bring.Step.TheVariants as step
 use Rattle.layout.proofs.RowLaws.{cap_le, rows_same, rows_none, length_rows}
 use Rattle.layout.proofs.Frames.{wrote_none, wrote_then}
 use Rattle.intake.proofs.WithinLaws.{within_none, within_put, within_wide, within_then, word_before, word_after, within_past, brings_used, brings_sheet}
@@ -117,12 +110,12 @@ module _ (s : List ℕ) (count i : ℕ) (f : Front) (t : List ℕ) (b : Bringing
   unfolding nodes_from ◌>>=◌ next give
   nodes_more x at e = b.same ∙ rw (one, e) (ahead_one (rows_to (node_in t) i) x s (nodes_from (count - (i + 1)) count (i + 1) s at))
 
-  module _ (r : NodeRead) (e : (got_node s r ≡ node count i s f.next.at) × FormedNode s count r) where
-    pub node_bad : (why : Fault) (at : ℕ) → r ≡ read.Bad why at → Stopped s t t
-    node_bad why at q =
-        record { refuses = bad_refuses s (fault_of why) at (nodes_bad (fault_of why) at (sym e.0 ∙ ap (got_node s) q)); wrote = within_none t nodes_at store_bytes }
+  module _ (r : rust.Result row.Node Refused) (e : (got_node s r ≡ node count i s f.next.at) × FormedNode s count r) where
+    pub node_bad : (w : Refused) → r ≡ rust.Err w → Stopped s t t
+    node_bad w q =
+        record { refuses = bad_refuses s (fault_of w.why) w.at (nodes_bad (fault_of w.why) w.at (sym e.0 ∙ ap (got_node s) q)); wrote = within_none t nodes_at store_bytes }
 
-    module _ (n : row.Node) (q : r ≡ read.Value n) where
+    module _ (n : row.Node) (q : r ≡ rust.Ok n) where
       formed : FormedSpans s count n
       formed = subst (FormedNode s count) q e.1
 
@@ -141,11 +134,10 @@ module _ (s : List ℕ) (count i : ℕ) (f : Front) (t : List ℕ) (b : Bringing
           record {
             kids =
                 record {
-                  ordered = formed.kids.ordered;
-                  within = omega (arith, formed.kids.within);
                   formed = formed.kids.formed;
                   low = below_more count node_limit few (node_of s n).kids formed.kids.fits;
                 };
+            listed = (formed.kids.ordered, omega (arith, formed.kids.within));
             ordered = formed.text.ordered;
             within = omega (arith, formed.text.within);
           }
@@ -191,30 +183,30 @@ module _ (s : List ℕ) (count i : ℕ) (f : Front) (t : List ℕ) (b : Bringing
           long ns a k = omega (arith, (whole_sheet s ns a).short, inside, apart, b.half)
 
       -- whatever became of its row
-      pub node_brought : (u : List ℕ) (z : Step) → RowBrought s n t u i f z → NodeBrought s count i t u z
-      node_brought u (step.More g) h = node_in_lem g u h
-      node_brought u step.Full h = node_over u h
+      pub node_brought : (u : List ℕ) (z : rust.Option Front) → RowBrought s n t u i f z → NodeBrought s count i t u z
+      node_brought u (rust.Some g) h = node_in_lem g u h
+      node_brought u rust.None h = node_over u h
 
 -- ---- the first line
-module _ (s : List ℕ) (start : Position) (z : start.at ≡ 0) (r : NumberRead) (e : got_number r ≡ number_of (bytes "nodes=") wrong_count 1 4096 s start.at) where
+module _ (s : List ℕ) (start : Position) (z : start.at ≡ 0) (r : rust.Result (ℕ × Position) Refused) (e : got_number r ≡ number_of (bytes "nodes=") wrong_count 1 4096 s start.at) where
   here : spec.number "nodes=" wrong_count 1 4096 s 0 ≡ got_number r
   here = number_by "nodes=" wrong_count 1 4096 s 0 (got_number r) (rw z at e)
 
-  pub count_bad : (why : Fault) (at : ℕ) → r ≡ number.Bad why at → (t : List ℕ) → Brought s t t false
+  pub count_bad : (w : Refused) → r ≡ rust.Err w → (t : List ℕ) → Brought s t t false
   unfolding node_list ◌>>=◌ next
-  count_bad why at q t =
+  count_bad w q t =
       record {
         wrote = wrote_none bringing t;
         past = refl;
-        holds = λ ns a few. absurd (bad_refuses s (fault_of why) at (rw (here, q)) ns a few);
+        holds = λ ns a few. absurd (bad_refuses s (fault_of w.why) w.at (rw (here, q)) ns a few);
       }
 
-  pub counted : (count : ℕ) (first : Position) → r ≡ number.Value count first → Counted s count first.at
+  pub counted : (count : ℕ) (first : Position) → r ≡ rust.Ok (count, first) → Counted s count first.at
   unfolding node_list ◌>>=◌ next
   counted count first q =
       record {
         few = (number_within "nodes=" wrong_count 1 4096 s 0 count first.at (here ∙ ap got_number q)).1;
-        inside = number_inside (bytes "nodes=") wrong_count 1 4096 s start.at r e count first q;
+        inside = number_inside (bytes "nodes=") wrong_count 1 4096 s start.at count first.at (rw q at e);
         same = rw (here, q);
       }
 
@@ -365,16 +357,16 @@ module _ (s t t₀ t₁ : List ℕ) (d : t₀ ≡ set_word t texts_place sheet_t
         }
 
 -- ---- what an answer says, once it is known which it is
-module _ (s : List ℕ) (count i : ℕ) (t u : List ℕ) (r : Step) (h : NodeBrought s count i t u r) where
-  pub more_is : {g : Front} → r ≡ step.More g → NodeIn s count i g t u
+module _ (s : List ℕ) (count i : ℕ) (t u : List ℕ) (r : rust.Option Front) (h : NodeBrought s count i t u r) where
+  pub more_is : {g : Front} → r ≡ rust.Some g → NodeIn s count i g t u
   more_is e = subst (NodeBrought s count i t u) e h
 
-  pub full_is : r ≡ step.Full → Stopped s t u
+  pub full_is : r ≡ rust.None → Stopped s t u
   full_is e = subst (NodeBrought s count i t u) e h
 
-module _ (s : List ℕ) (count : ℕ) (t u : List ℕ) (r : Room) (h : AllBrought s count t u r) where
-  pub all_is_in : {texts : ℕ} → r ≡ room.Upto texts → AllIn s count texts t u
+module _ (s : List ℕ) (count : ℕ) (t u : List ℕ) (r : rust.Option ℕ) (h : AllBrought s count t u r) where
+  pub all_is_in : {texts : ℕ} → r ≡ rust.Some texts → AllIn s count texts t u
   all_is_in e = subst (AllBrought s count t u) e h
 
-  pub all_is_not : r ≡ room.Full → Stopped s t u
+  pub all_is_not : r ≡ rust.None → Stopped s t u
   all_is_not e = subst (AllBrought s count t u) e h

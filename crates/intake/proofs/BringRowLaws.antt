@@ -16,10 +16,11 @@ use Rattle.layout.specs.Layout.{node_limit, kid_limit, sheet_text_limit, node_ro
 use Rattle.layout.specs.Rows.{rows_from, marked, set_all}
 use Rattle.layout.specs.Texts.{texts_used, text_in}
 use Rattle.layout.specs.Nodes.{kid_in, first_kid, node_in}
+use Rattle.std.specs.Prelude as rust
+use Rattle.sheet.specs.Lines.{span_of}
+use Rattle.spec.specs.Basics.{Text}
 use Rattle.intake.specs.Bring.{Within, kids_in, KidsIn, KidsOver, KidsBrought, text_from, TextBrought, TextOver, TextIn, Settled, Rows, RowPut, RowIn, RowOver}
 use Rattle.intake.specs.declared.bring.Front.{Front}
-use Rattle.intake.specs.declared.bring.Room.{Room}
-use Rattle.intake.specs.declared.bring.Room.TheVariants as room
 use Rattle.layout.proofs.RowLaws.{cap_le, rows_same, rows_more, between_same}
 use Rattle.layout.proofs.WriteLaws.{Small, all_is}
 use Rattle.intake.proofs.WithinLaws.{within_wide, within_then, within_all, word_before, word_after, text_same}
@@ -170,8 +171,8 @@ module _ {t u : List ℕ} {i kids texts : ℕ} (r : Rows t i kids texts) (p : Ke
 -- ---- one row more
 node_new : (s t u : List ℕ) (i : ℕ) (n : row.Node) (first text last : ℕ) → RowPut t u i n.kind n.from n.to n.flag text last
     → word u (nodes_at + node_row * i) ≡ first → first ≤ last → last ≤ kid_limit
-    → rows_from (kid_in u) first last ≡ kids_in s n.kids.start n.kids.end
-    → text_in u text ≡ text_from s n.text.start n.text.end → node_in u i ≡ node_of s n
+    → rows_from (kid_in u) first last ≡ kids_in (span_of s n.kids)
+    → text_in u text ≡ text_from (span_of s n.text) → node_in u i ≡ node_of s n
 unfolding node_in first_kid kids_in text_from
 node_new s t u i n first text last w z o l kids bytes =
     rw (
@@ -190,8 +191,8 @@ node_new s t u i n first text last w z o l kids bytes =
 
 module _ (s : List ℕ) (n : row.Node) (i : ℕ) (f : Front) (t t₁ t₂ u : List ℕ) (last texts : ℕ) (long : Long t) (b : i < node_limit)
     (r : Rows t i f.kids f.texts)
-    (k : KidsIn s n.kids.start n.kids.end t t₁ f.kids last)
-    (x : TextBrought s n.text.start n.text.end t₁ t₂ f.texts texts)
+    (k : KidsIn (span_of s n.kids) t t₁ f.kids last)
+    (x : TextBrought (span_of s n.text) t₁ t₂ f.texts texts)
     (words : RowPut t₂ u i n.kind n.from n.to n.flag f.texts last) where
   put : Within t₂ u (nodes_at + node_row * i + 4) (nodes_at + node_row * i + 28)
   put = words.wrote
@@ -208,21 +209,21 @@ module _ (s : List ℕ) (n : row.Node) (i : ℕ) (f : Front) (t t₁ t₂ u : Li
       ∙ word_before k.wrote (nodes_at + node_row * i) (omega arith) ∙ r.here
 
   -- the last of the rows
-  its_kids : rows_from (kid_in u) f.kids last ≡ kids_in s n.kids.start n.kids.end
+  its_kids : rows_from (kid_in u) f.kids last ≡ kids_in (span_of s n.kids)
   its_kids =
       between t₁ u f.kids last (λ j l h. word_after put (kids_at + 4 * j) (omega arith) ∙ word_before x.wrote (kids_at + 4 * j) (omega (arith, k.room)))
       ∙ k.same
 
-  its_size : word u (texts_at + f.texts) ≡ length (text_from s n.text.start n.text.end)
+  its_size : word u (texts_at + f.texts) ≡ length (text_from (span_of s n.text))
   its_size = word_after put (texts_at + f.texts) (omega arith) ∙ x.size
 
   -- the text lies within the bytes in use
-  its_bytes : text_in u f.texts ≡ text_from s n.text.start n.text.end
+  its_bytes : text_in u f.texts ≡ text_from (span_of s n.text)
   its_bytes =
       let used : texts_used u ≡ sheet_text_limit = used_is u sheet_text_limit (kept.used ∙ r.in_use) (omega arith) in
       text_in_lem u f.texts (omega (arith, used, its_size, x.count, x.room))
       ∙ ap (run u (texts_at + f.texts + 4)) its_size
-      ∙ put.other (texts_at + f.texts + 4) (length (text_from s n.text.start n.text.end)) (inr (omega arith)) ∙ x.same
+      ∙ put.other (texts_at + f.texts + 4) (length (text_from (span_of s n.text))) (inr (omega arith)) ∙ x.same
 
   newest : node_in u i ≡ node_of s n
   newest = node_new s t₂ u i n f.kids f.texts last words begin (omega (arith, k.count)) k.room its_kids its_bytes
@@ -257,25 +258,25 @@ module _ (s : List ℕ) (n : row.Node) (i : ℕ) (f : Front) (t t₁ t₂ u : Li
 
 -- ---- no room for it
 module _ (s : List ℕ) (n : row.Node) (f : Front) (t t₁ : List ℕ) where
-  pub kids_over : KidsOver s n.kids.start n.kids.end t t₁ f.kids → RowOver s n t t₁ f
+  pub kids_over : KidsOver (span_of s n.kids) t t₁ f.kids → RowOver s n t t₁ f
   unfolding kids_in
   kids_over k = record { over = inl k.over; wrote = within_wide nodes_at store_bytes k.wrote (omega arith) (omega arith) }
 
-  pub text_over : (last : ℕ) → KidsIn s n.kids.start n.kids.end t t₁ f.kids last → (t₂ : List ℕ)
-      → TextOver s n.text.start n.text.end t₁ t₂ f.texts → RowOver s n t t₂ f
+  pub text_over : (last : ℕ) → KidsIn (span_of s n.kids) t t₁ f.kids last → (t₂ : List ℕ)
+      → TextOver (span_of s n.text) t₁ t₂ f.texts → RowOver s n t t₂ f
   unfolding text_from
   text_over last k t₂ x = record { over = inr x.over; wrote = rw x.wrote (within_wide nodes_at store_bytes k.wrote (omega arith) (omega (arith, k.room))) }
 
 -- ---- what an answer says, once it is known which it is
-module _ (s : List ℕ) (start end : ℕ) (t u : List ℕ) (first : ℕ) (r : Room) where
-  pub kids_are : {last : ℕ} → KidsBrought s start end t u first r → r ≡ room.Upto last → KidsIn s start end t u first last
-  kids_are h e = subst (KidsBrought s start end t u first) e h
+module _ (v : Text) (t u : List ℕ) (first : ℕ) (r : rust.Option ℕ) where
+  pub kids_are : {last : ℕ} → KidsBrought v t u first r → r ≡ rust.Some last → KidsIn v t u first last
+  kids_are h e = subst (KidsBrought v t u first) e h
 
-  pub kids_not : KidsBrought s start end t u first r → r ≡ room.Full → KidsOver s start end t u first
-  kids_not h e = subst (KidsBrought s start end t u first) e h
+  pub kids_not : KidsBrought v t u first r → r ≡ rust.None → KidsOver v t u first
+  kids_not h e = subst (KidsBrought v t u first) e h
 
-  pub text_are : {last : ℕ} → TextIn s start end t u first r → r ≡ room.Upto last → TextBrought s start end t u first last
-  text_are h e = subst (TextIn s start end t u first) e h
+  pub text_are : {last : ℕ} → TextIn v t u first r → r ≡ rust.Some last → TextBrought v t u first last
+  text_are h e = subst (TextIn v t u first) e h
 
-  pub text_not : TextIn s start end t u first r → r ≡ room.Full → TextOver s start end t u first
-  text_not h e = subst (TextIn s start end t u first) e h
+  pub text_not : TextIn v t u first r → r ≡ rust.None → TextOver v t u first
+  text_not h e = subst (TextIn v t u first) e h

@@ -11,42 +11,43 @@ use Rattle.words.proofs.WordLaws.{word_set_word_same}
 use Rattle.sheet.specs.Texts.{decoded}
 use Rattle.sheet.proofs.TextLaws.{length_decoded}
 use Rattle.layout.specs.Layout.{sheet_text_limit, texts_at, Long}
+use Rattle.spec.specs.Basics.{Text}
 use Rattle.intake.specs.Bring.{Within, text_from, TextBrought, TextOver}
 use Rattle.intake.proofs.WithinLaws.{within_put, within_splice, within_wide, within_then, word_before}
 
-module _ (s : List ℕ) (start end : ℕ) (o : start ≤ end) (h : end ≤ length s) where
-  size : length (text_from s start end) ≡ (end - start) / 2
+module _ (v : Text) where
+  size : length (text_from v) ≡ length v / 2
   unfolding text_from
-  size = length_decoded (run s start (end - start)) ∙ ap (λ (n : ℕ). n / 2) (length_run s start (end - start) (omega arith))
+  size = length_decoded v
 
-  module _ (t : List ℕ) (first n : ℕ) (e : n ≡ (end - start) / 2) where
-    pub text_over : sheet_text_limit < first + 4 + n → TextOver s start end t t first
+  module _ (t : List ℕ) (first n : ℕ) (e : n ≡ length v / 2) where
+    pub text_over : sheet_text_limit < first + 4 + n → TextOver v t t first
     text_over k = record { over = omega (arith, size); wrote = refl }
 
     module _ (long : Long t) (room : first + 4 + n ≤ sheet_text_limit) (t₁ t₂ : List ℕ) (p : t₁ ≡ set_word t (texts_at + first) n)
-        (q : t₂ ≡ splice t₁ (texts_at + first + 4) (decoded (run s start (end - start)))) where
-      counted : first + 4 + n ≡ first + 4 + length (text_from s start end)
+        (q : t₂ ≡ splice t₁ (texts_at + first + 4) (decoded v)) where
+      counted : first + 4 + n ≡ first + 4 + length (text_from v)
       counted = omega (arith, size)
 
       put : Within t t₁ (texts_at + first) (texts_at + first + 4)
       put = rw p (within_put t (texts_at + first) n)
 
-      pasted : Within t₁ t₂ (texts_at + first + 4) (texts_at + first + 4 + length (text_from s start end))
+      pasted : Within t₁ t₂ (texts_at + first + 4) (texts_at + first + 4 + length (text_from v))
       unfolding text_from
-      pasted = rw q (within_splice t₁ (texts_at + first + 4) (decoded (run s start (end - start))))
+      pasted = rw q (within_splice t₁ (texts_at + first + 4) (decoded v))
 
-      its_size : word t₂ (texts_at + first) ≡ length (text_from s start end)
+      its_size : word t₂ (texts_at + first) ≡ length (text_from v)
       its_size =
           word_before pasted (texts_at + first) (omega arith) ∙ ap (λ (x : List ℕ). word x (texts_at + first)) p
           ∙ word_set_word_same t (texts_at + first) n (omega arith) (omega arith) ∙ omega (arith, size)
 
-      its_bytes : run t₂ (texts_at + first + 4) (length (text_from s start end)) ≡ text_from s start end
+      its_bytes : run t₂ (texts_at + first + 4) (length (text_from v)) ≡ text_from v
       unfolding text_from
       its_bytes =
-          ap (λ (x : List ℕ). run x (texts_at + first + 4) (length (text_from s start end))) q
-          ∙ run_splice_same t₁ (texts_at + first + 4) (decoded (run s start (end - start))) (omega (arith, size, put.long))
+          ap (λ (x : List ℕ). run x (texts_at + first + 4) (length (text_from v))) q
+          ∙ run_splice_same t₁ (texts_at + first + 4) (decoded v) (omega (arith, size, put.long))
 
-      pub text_brought : TextBrought s start end t t₂ first (first + 4 + n)
+      pub text_brought : TextBrought v t t₂ first (first + 4 + n)
       text_brought =
           record {
             count = counted;

@@ -1,4 +1,7 @@
 -- Bringing a sheet's nodes in: what has been read of the sheet, and what of it the store says so far.
+use Rattle.std.specs.Prelude as rust
+use Rattle.std.specs.Borrow.{Bor}
+use Rattle.sheet.specs.Lines.{span_of}
 use Rattle.std.specs.Prelude.{◌≡◌, ◌⊎◌, Bool, true, List, [], ◌∷◌, ◌++◌, ℕ, ◌+◌, ◌-◌, ◌*◌, ◌<◌, ◌≤◌, length, drop}
 use Rattle.std.proofs.Math.Option.{Option, some}
 use Rattle.words.specs.Runs.{run}
@@ -16,13 +19,7 @@ use Rattle.layout.specs.Rows.{rows_to, rows_from, marked}
 use Rattle.layout.specs.Changes.{Wrote}
 use Rattle.layout.specs.Regions.{bringing}
 use Rattle.layout.specs.Nodes.{kid_in, node_in, nodes_of}
-use Rattle.intake.specs.declared.bring.Room.{Room}
-use Rattle.intake.specs.declared.bring.Room.TheVariants as room
-use Rattle.intake.specs.declared.bring.KidWord.{KidWord}
-use Rattle.intake.specs.declared.bring.KidWord.TheVariants as kid
 use Rattle.intake.specs.declared.bring.Front.{Front}
-use Rattle.intake.specs.declared.bring.Step.{Step}
-use Rattle.intake.specs.declared.bring.Step.TheVariants as step
 
 -- t is s, written over from lo to hi alone: what `Wrote` says of words, of runs of any length, for the texts
 pub record Within (s t : List ℕ) (lo hi : ℕ) : Type 0 where
@@ -30,60 +27,57 @@ pub record Within (s t : List ℕ) (lo hi : ℕ) : Type 0 where
   pub other : (j n : ℕ) → (j + n ≤ lo) ⊎ (hi ≤ j) → run t j n ≡ run s j n
 
 -- ---- kids
--- the kids of a list from a place to its end
-unfoldable pub kids_in : List ℕ → ℕ → ℕ → List (Option NodeId)
-kids_in s at end = kids_of (run s at (end - at))
+unfoldable pub kids_in : Text → List (Option NodeId)
+kids_in v = kids_of v
 
 -- there is such a list, and its numbers are those of nodes
-pub record Kids (s : List ℕ) (at end : ℕ) : Type 0 where
-  pub ordered : at ≤ end
-  pub within : end ≤ length s
-  pub formed : kid_list (run s at (end - at)) ≡ some (kids_in s at end)
-  pub low : all_below node_limit (kids_in s at end) ≡ true
+pub record Kids (v : Text) : Type 0 where
+  pub formed : kid_list v ≡ some (kids_in v)
+  pub low : all_below node_limit (kids_in v) ≡ true
 
--- the kids at a place are the one whose word was read, and those at the next place
-pub record After (s : List ℕ) (at end w next : ℕ) : Type 0 where
-  pub same : kids_in s at end ≡ marked w ∷ kids_in s next end
-  pub onward : at < next
-  pub others : Kids s next end
+-- the kids of a list are the one whose word was read, and those of the list after it
+pub record After (v : Text) (w : ℕ) (rest : Text) : Type 0 where
+  pub same : kids_in v ≡ marked w ∷ kids_in rest
+  pub onward : length rest < length v
+  pub others : Kids rest
 
-abbrev pub KidRead : List ℕ → ℕ → ℕ → KidWord → Type 0
-KidRead s at end kid.End = kids_in s at end ≡ []
-KidRead s at end (kid.Word w next) = After s at end w next
+abbrev pub KidRead : Text → rust.Option (ℕ × Bor (List ℕ)) → Type 0
+KidRead v rust.None = kids_in v ≡ []
+KidRead v (rust.Some p) = After v p.0 p.1.now
 
 -- a list's words stand from one place of the kids to another
-pub record KidsIn (s : List ℕ) (start end : ℕ) (t u : List ℕ) (first last : ℕ) : Type 0 where
-  pub count : last ≡ first + length (kids_in s start end)
+pub record KidsIn (v : Text) (t u : List ℕ) (first last : ℕ) : Type 0 where
+  pub count : last ≡ first + length (kids_in v)
   pub room : last ≤ kid_limit
   pub wrote : Within t u (kids_at + 4 * first) (kids_at + 4 * last)
-  pub same : rows_from (kid_in u) first last ≡ kids_in s start end
+  pub same : rows_from (kid_in u) first last ≡ kids_in v
 
-pub record KidsOver (s : List ℕ) (start end : ℕ) (t u : List ℕ) (first : ℕ) : Type 0 where
-  pub over : kid_limit < first + length (kids_in s start end)
+pub record KidsOver (v : Text) (t u : List ℕ) (first : ℕ) : Type 0 where
+  pub over : kid_limit < first + length (kids_in v)
   pub wrote : Within t u kids_at texts_at
 
-abbrev pub KidsBrought : List ℕ → ℕ → ℕ → List ℕ → List ℕ → ℕ → Room → Type 0
-KidsBrought s start end t u first (room.Upto last) = KidsIn s start end t u first last
-KidsBrought s start end t u first room.Full = KidsOver s start end t u first
+abbrev pub KidsBrought : Text → List ℕ → List ℕ → ℕ → rust.Option ℕ → Type 0
+KidsBrought v t u first (rust.Some last) = KidsIn v t u first last
+KidsBrought v t u first rust.None = KidsOver v t u first
 
 -- ---- texts
-unfoldable pub text_from : List ℕ → ℕ → ℕ → Text
-text_from s start end = decoded (run s start (end - start))
+unfoldable pub text_from : Text → Text
+text_from v = decoded v
 
-pub record TextBrought (s : List ℕ) (start end : ℕ) (t u : List ℕ) (first last : ℕ) : Type 0 where
-  pub count : last ≡ first + 4 + length (text_from s start end)
+pub record TextBrought (v : Text) (t u : List ℕ) (first last : ℕ) : Type 0 where
+  pub count : last ≡ first + 4 + length (text_from v)
   pub room : last ≤ sheet_text_limit
   pub wrote : Within t u (texts_at + first) (texts_at + last)
-  pub size : word u (texts_at + first) ≡ length (text_from s start end)
-  pub same : run u (texts_at + first + 4) (length (text_from s start end)) ≡ text_from s start end
+  pub size : word u (texts_at + first) ≡ length (text_from v)
+  pub same : run u (texts_at + first + 4) (length (text_from v)) ≡ text_from v
 
-pub record TextOver (s : List ℕ) (start end : ℕ) (t u : List ℕ) (first : ℕ) : Type 0 where
-  pub over : sheet_text_limit < first + 4 + length (text_from s start end)
+pub record TextOver (v : Text) (t u : List ℕ) (first : ℕ) : Type 0 where
+  pub over : sheet_text_limit < first + 4 + length (text_from v)
   pub wrote : u ≡ t
 
-abbrev pub TextIn : List ℕ → ℕ → ℕ → List ℕ → List ℕ → ℕ → Room → Type 0
-TextIn s start end t u first (room.Upto last) = TextBrought s start end t u first last
-TextIn s start end t u first room.Full = TextOver s start end t u first
+abbrev pub TextIn : Text → List ℕ → List ℕ → ℕ → rust.Option ℕ → Type 0
+TextIn v t u first (rust.Some last) = TextBrought v t u first last
+TextIn v t u first rust.None = TextOver v t u first
 
 -- ---- rows
 -- the kids and the text of a row lie below the places where the next ones will
@@ -112,7 +106,8 @@ pub record RowPut (t u : List ℕ) (i a b c d e f : ℕ) : Type 0 where
 
 -- where the kids and the text of a node stand in the sheet
 pub record Spans (s : List ℕ) (n : row.Node) : Type 0 where
-  pub kids : Kids s n.kids.start n.kids.end
+  pub kids : Kids (span_of s n.kids)
+  pub listed : (n.kids.start ≤ n.kids.end) × (n.kids.end ≤ length s)
   pub ordered : n.text.start ≤ n.text.end
   pub within : n.text.end ≤ length s
 
@@ -129,9 +124,9 @@ pub record RowOver (s : List ℕ) (n : row.Node) (t u : List ℕ) (f : Front) : 
   pub over : (kid_limit < f.kids + length (node_of s n).kids) ⊎ (sheet_text_limit < f.texts + 4 + length (node_of s n).text)
   pub wrote : Within t u nodes_at store_bytes
 
-abbrev pub RowBrought : List ℕ → row.Node → List ℕ → List ℕ → ℕ → Front → Step → Type 0
-RowBrought s n t u i f (step.More g) = RowIn s n t u i f g
-RowBrought s n t u i f step.Full = RowOver s n t u f
+abbrev pub RowBrought : List ℕ → row.Node → List ℕ → List ℕ → ℕ → Front → rust.Option Front → Type 0
+RowBrought s n t u i f (rust.Some g) = RowIn s n t u i f g
+RowBrought s n t u i f rust.None = RowOver s n t u f
 
 -- ---- nodes
 -- nodes that were read, ahead of those that are still to read
@@ -161,9 +156,9 @@ pub record Stopped (s t u : List ℕ) : Type 0 where
   pub refuses : Refuses s
   pub wrote : Within t u nodes_at store_bytes
 
-abbrev pub NodeBrought : List ℕ → ℕ → ℕ → List ℕ → List ℕ → Step → Type 0
-NodeBrought s count i t u (step.More g) = NodeIn s count i g t u
-NodeBrought s count i t u step.Full = Stopped s t u
+abbrev pub NodeBrought : List ℕ → ℕ → ℕ → List ℕ → List ℕ → rust.Option Front → Type 0
+NodeBrought s count i t u (rust.Some g) = NodeIn s count i g t u
+NodeBrought s count i t u rust.None = Stopped s t u
 
 -- ---- all of them
 -- so many nodes follow in the sheet from a place on
@@ -180,9 +175,9 @@ pub record AllIn (s : List ℕ) (count texts : ℕ) (t u : List ℕ) : Type 0 wh
   pub rows : Rows u count kids texts
   pub wrote : Within t u nodes_at store_bytes
 
-abbrev pub AllBrought : List ℕ → ℕ → List ℕ → List ℕ → Room → Type 0
-AllBrought s count t u (room.Upto texts) = AllIn s count texts t u
-AllBrought s count t u room.Full = Stopped s t u
+abbrev pub AllBrought : List ℕ → ℕ → List ℕ → List ℕ → rust.Option ℕ → Type 0
+AllBrought s count t u (rust.Some texts) = AllIn s count texts t u
+AllBrought s count t u rust.None = Stopped s t u
 
 -- the store says the nodes; the bytes of texts in use are those of their texts, each with its length, and every one
 -- lies within them

@@ -9,11 +9,11 @@ loop-i-init c = going_start _ _ _ _ c.requires.1.1
 pub bring_node-requires : goal.bring_node-requires
 bring_node-requires c = (omega (arith, c.requires.0, c.loop-i.invariant.wrote.long), (c.requires.1.0, (omega arith, c.loop-i.invariant.brought)))
 
-pub returns-in-Full : goal.returns-in-Full
-returns-in-Full c = going_stopped c.loop-i.invariant (full_is _ _ _ _ _ _ c.bring_node.ensures c.in-Full.is)
+pub returns-in-None : goal.returns-in-None
+returns-in-None c = going_stopped c.loop-i.invariant (full_is _ _ _ _ _ _ c.bring_node.ensures c.in-None.is)
 
 pub loop-i-preserved : goal.loop-i-preserved
-loop-i-preserved c = going_more c.loop-i.invariant (more_is _ _ _ _ _ _ c.bring_node.ensures c.in-More.is)
+loop-i-preserved c = going_more c.loop-i.invariant (more_is _ _ _ _ _ _ c.bring_node.ensures c.in-Some.is)
 
 pub returns : goal.returns
 returns c = going_end c.loop-i.invariant (omega arith)

@@ -6,8 +6,8 @@ use Rattle.intake.proofs.bring.bring_counted.Goals as goal
 pub bring_all-requires : goal.bring_all-requires
 bring_all-requires c = (search rules, (c.requires.1.few, bringing_start _ _ _ c.requires.1 _ _ _ c.requires.0 c.put32.ensures c.put32-2.ensures))
 
-pub returns-in-Full : goal.returns-in-Full
-returns-in-Full c = stopped_brought _ _ _ _ c.put32.ensures c.put32-2.ensures _ (all_is_not _ _ _ _ _ c.bring_all.ensures c.in-Full.is)
+pub returns-in-None : goal.returns-in-None
+returns-in-None c = stopped_brought _ _ _ _ c.put32.ensures c.put32-2.ensures _ (all_is_not _ _ _ _ _ c.bring_all.ensures c.in-None.is)
 
-pub returns-in-Upto : goal.returns-in-Upto
-returns-in-Upto c = all_brought _ _ _ _ c.put32.ensures c.put32-2.ensures _ _ _ (all_is_in _ _ _ _ _ c.bring_all.ensures c.in-Upto.is) c.requires.0 c.requires.1.few _ _ c.put32-in-Upto.ensures c.put32-in-Upto-2.ensures
+pub returns-in-Some : goal.returns-in-Some
+returns-in-Some c = all_brought _ _ _ _ c.put32.ensures c.put32-2.ensures _ _ _ (all_is_in _ _ _ _ _ c.bring_all.ensures c.in-Some.is) c.requires.0 c.requires.1.few _ _ c.put32-in-Some.ensures c.put32-in-Some-2.ensures

@@ -3,10 +3,10 @@ use Rattle.intake.proofs.BringLaws.{count_bad, counted}
 use Rattle.intake.proofs.bring.bring_nodes.Goals as goal
 
 pub bring_counted-requires : goal.bring_counted-requires
-bring_counted-requires c = (c.requires, counted _ c.first-start.result c.first-start.ensures _ c.number.ensures _ _ c.in-Value.is)
+bring_counted-requires c = (c.requires, counted _ c.first-start.result c.first-start.ensures _ c.number.ensures _ _ c.in-Ok.is)
 
-pub returns-in-Bad : goal.returns-in-Bad
-returns-in-Bad c = count_bad _ c.first-start.result c.first-start.ensures _ c.number.ensures _ _ c.in-Bad.is _
+pub returns-in-Err : goal.returns-in-Err
+returns-in-Err c = count_bad _ c.first-start.result c.first-start.ensures _ c.number.ensures _ c.in-Err.is _
 
-pub returns-in-Value : goal.returns-in-Value
-returns-in-Value c = c.bring_counted.ensures
+pub returns-in-Ok : goal.returns-in-Ok
+returns-in-Ok c = c.bring_counted.ensures

@@ -2,14 +2,18 @@
 use Rattle.intake.proofs.BringKidLaws.{word_end, word_absent, word_number, never_malformed}
 use Rattle.intake.proofs.bring.kid_word.Goals as goal
 
-pub returns-in-End : goal.returns-in-End
-returns-in-End c = word_end _ _ _ c.requires _ (c.next_kid.ensures.result_value, c.next_kid.ensures.step_inside) c.in-End.is
+pub returns-in-Ok-Some-Some-default : goal.returns-in-Ok-Some-Some-default
+returns-in-Ok-Some-Some-default c =
+    let w = c.in-Ok-Some-Some-default in
+    word_number c.args.kids.now c.requires w.rest.now (rw w.field-0-is at w.ensures.rest_inside) w.k (rw (w.field-0-is, w.field-0-0-0-is) at w.ensures.result_value)
 
-pub returns-in-Absent : goal.returns-in-Absent
-returns-in-Absent c = word_absent _ _ _ c.requires _ (c.next_kid.ensures.result_value, c.next_kid.ensures.step_inside) _ c.in-Absent.is
+pub returns-in-Ok-Some-None-default : goal.returns-in-Ok-Some-None-default
+returns-in-Ok-Some-None-default c =
+    let w = c.in-Ok-Some-None-default in
+    word_absent c.args.kids.now c.requires w.rest.now (rw w.field-0-is at w.ensures.rest_inside) (rw (w.field-0-is, w.field-0-0-0-is) at w.ensures.result_value)
 
-pub returns-in-Number : goal.returns-in-Number
-returns-in-Number c = word_number _ _ _ c.requires _ (c.next_kid.ensures.result_value, c.next_kid.ensures.step_inside) _ _ c.in-Number.is
+pub returns-in-Ok-None : goal.returns-in-Ok-None
+returns-in-Ok-None c = word_end c.args.kids.now c.requires (rw c.in-Ok-None.field-0-is at c.in-Ok-None.ensures.result_value)
 
-pub returns-in-Malformed : goal.returns-in-Malformed
-returns-in-Malformed c = absurd (never_malformed _ _ _ c.requires _ (c.next_kid.ensures.result_value, c.next_kid.ensures.step_inside) c.in-Malformed.is)
+pub returns-in-Err : goal.returns-in-Err
+returns-in-Err c = absurd (never_malformed c.args.kids.now c.requires c.in-Err.ensures.result_value)
