@@ -1,4 +1,5 @@
 -- The functions of the cycle `+exprs` meet their contracts.
+use Rattle.lower.proofs.ChildLaws.{one_child, two_children, two_places, three_children}
 use Rattle.lower.proofs.BindingLaws.{let_lowers, set_lowers}
 use Rattle.lower.proofs.ExprLaws.{binop_missing, binop_lowers, cond_lowers, opt_node, opt_absent, pair_lowers, there_node, there_absent, unop_missing, unop_lowers}
 use Rattle.lower.proofs.InnerLaws.{desugar_lowers, nest_lowers}
@@ -63,14 +64,14 @@ binds-returns t c = desugar_lowers _ _ _ _ c.set_count-sets.ensures.0 c.entry_co
 -- ---- binop
 
 pub binop-returns-then-op-eq0 : goal.binop-returns-then-op-eq0
-binop-returns-then-op-eq0 t c = binop_missing _ _ _ c.children_of-first.ensures _ _ c.node_flag-op.ensures c.opt-lhs.ensures c.if-op-eq0.true c.alloc_missing.ensures
+binop-returns-then-op-eq0 t c = binop_missing _ _ _ (two_children _ _ c.kid-first.ensures c.kid-second.ensures c.node_pointer-p.ensures) _ _ c.node_flag-op.ensures c.opt-lhs.ensures c.if-op-eq0.true c.alloc_missing.ensures
 
 pub binop-alloc_lone-requires : goal.binop-alloc_lone-requires
 unfolding ValidExpr
 binop-alloc_lone-requires t c = (omega (arith, c.requires), tt)
 
 pub binop-returns : goal.binop-returns
-binop-returns t c = binop_lowers _ _ _ c.children_of-first.ensures _ _ _ c.node_flag-op.ensures c.opt-lhs.ensures c.if-op-eq0.false c.opt-rhs.ensures c.alloc_lone.ensures
+binop-returns t c = binop_lowers _ _ _ (two_children _ _ c.kid-first.ensures c.kid-second.ensures c.node_pointer-p.ensures) _ _ _ c.node_flag-op.ensures c.opt-lhs.ensures c.if-op-eq0.false c.opt-rhs.ensures c.alloc_lone.ensures
 
 -- ---- cond
 
@@ -79,7 +80,7 @@ unfolding ValidExpr
 cond-alloc_lone-requires t c = (omega (arith, c.requires), tt)
 
 pub cond-returns : goal.cond-returns
-cond-returns t c = cond_lowers _ _ _ c.children_of-first.ensures _ _ _ c.opt-cond.ensures c.opt-then_body.ensures c.opt-else_body.ensures c.alloc_lone.ensures
+cond-returns t c = cond_lowers _ _ _ (three_children _ _ c.kid-first.ensures c.kid-second.ensures c.kid-third.ensures c.node_pointer-p.ensures) _ _ _ c.opt-cond.ensures c.opt-then_body.ensures c.opt-else_body.ensures c.alloc_lone.ensures
 
 -- ---- entries
 
@@ -176,7 +177,7 @@ expr-returns-in_default-kind t c =
 -- ---- field
 
 pub field-returns : goal.field-returns
-field-returns t c = field_lowers _ _ _ _ _ c.children_of-first.ensures (name_lowers _ _ _ c.lower_name-x.ensures) c.there-e.ensures c.push_item.ensures
+field-returns t c = field_lowers _ _ _ _ _ (two_places _ _ c.kid-first.ensures c.kid-second.ensures) (name_lowers _ _ _ c.lower_name-x.ensures) c.there-e.ensures c.push_item.ensures
 
 -- ---- fields
 
@@ -203,7 +204,7 @@ unfolding ValidExpr
 get-alloc_expr-requires t c = (omega (arith, c.requires), tt)
 
 pub get-returns : goal.get-returns
-get-returns t c = select_lowers _ _ _ _ c.waiting_count-base.ensures c.children_of-first.ensures _ c.opt-set.ensures c.attrs.ensures _ c.there-default_expr.ensures c.alloc_expr.ensures
+get-returns t c = select_lowers _ _ _ _ c.waiting_count-base.ensures (three_children _ _ c.kid-first.ensures c.kid-second.ensures c.kid-third.ensures c.node_pointer-p.ensures) _ c.opt-set.ensures c.attrs.ensures _ c.there-default_expr.ensures c.alloc_expr.ensures
 
 -- ---- has
 
@@ -212,7 +213,7 @@ unfolding ValidExpr
 has-alloc_expr-requires t c = (omega (arith, c.requires), tt)
 
 pub has-returns : goal.has-returns
-has-returns t c = has_lowers _ _ _ _ c.waiting_count-base.ensures c.children_of-first.ensures _ c.opt-set.ensures c.attrs.ensures c.alloc_expr.ensures
+has-returns t c = has_lowers _ _ _ _ c.waiting_count-base.ensures (two_children _ _ c.kid-first.ensures c.kid-second.ensures c.node_pointer-p.ensures) _ c.opt-set.ensures c.attrs.ensures c.alloc_expr.ensures
 
 -- ---- heir
 
@@ -260,7 +261,7 @@ unfolding ValidExpr
 lambda-alloc_expr-requires t c = (omega (arith, c.requires), tt)
 
 pub lambda-returns : goal.lambda-returns
-lambda-returns t c = lambda_lowers _ _ _ _ _ _ _ c.waiting_count-base.ensures c.children_of-first.ensures c.param_of-ident.ensures (name_lowers _ _ _ c.lower_name-name.ensures) c.fields.ensures c.opt-body.ensures c.alloc_expr.ensures
+lambda-returns t c = lambda_lowers _ _ _ _ _ _ _ c.waiting_count-base.ensures (two_children _ _ c.kid-first.ensures c.kid-second.ensures c.node_pointer-p.ensures) c.param_of-ident.ensures (name_lowers _ _ _ c.lower_name-name.ensures) c.fields.ensures c.opt-body.ensures c.alloc_expr.ensures
 
 -- ---- last
 
@@ -277,7 +278,7 @@ unfolding ValidExpr
 let_in-alloc_expr-requires t c = (omega (arith, c.requires.0), tt)
 
 pub let_in-returns : goal.let_in-returns
-let_in-returns t c = let_lowers _ _ _ _ _ c.requires.1 c.waiting_count-base.ensures c.children_of-first.ensures c.binds.ensures c.opt-body.ensures c.alloc_expr.ensures
+let_in-returns t c = let_lowers _ _ _ _ _ c.requires.1 c.waiting_count-base.ensures (one_child _ _ c.kid-first.ensures c.node_pointer-p.ensures) c.binds.ensures c.opt-body.ensures c.alloc_expr.ensures
 
 -- ---- list
 
@@ -330,7 +331,7 @@ pub pair-alloc_lone-requires : goal.pair-alloc_lone-requires
 pair-alloc_lone-requires t c = (omega (arith, c.requires), c.pair_form.ensures.valid)
 
 pub pair-returns : goal.pair-returns
-pair-returns t c = pair_lowers _ _ _ c.children_of-first.ensures _ _ c.opt-a.ensures c.opt-b.ensures c.pair_form.ensures c.alloc_lone.ensures
+pair-returns t c = pair_lowers _ _ _ (two_children _ _ c.kid-first.ensures c.kid-second.ensures c.node_pointer-p.ensures) _ _ c.opt-a.ensures c.opt-b.ensures c.pair_form.ensures c.alloc_lone.ensures
 
 -- ---- part
 
@@ -382,11 +383,11 @@ push-returns t c = dynamic_pushed _ _ _ _ c.opt-k.ensures c.opt-v.ensures c.add_
 
 pub put-returns-in-None : goal.put-returns-in-None
 unfolding NextIn
-put-returns-in-None t c = attrpath_none _ _ _ _ c.children_of-first.ensures (rw c.in-None.is at c.next_in.ensures) c.push.ensures
+put-returns-in-None t c = attrpath_none _ _ _ _ (two_places _ _ c.kid-first.ensures c.kid-second.ensures) (rw c.in-None.is at c.next_in.ensures) c.push.ensures
 
 pub put-returns-in-Some : goal.put-returns-in-Some
 unfolding NextIn
-put-returns-in-Some t c = attrpath_there _ _ _ _ c.children_of-first.ensures (rw c.in-Some.is at c.next_in.ensures) c.nested.ensures
+put-returns-in-Some t c = attrpath_there _ _ _ _ (two_places _ _ c.kid-first.ensures c.kid-second.ensures) (rw c.in-Some.is at c.next_in.ensures) c.nested.ensures
 
 -- ---- set
 
@@ -447,4 +448,4 @@ unfolding ValidExpr
 unop-alloc_lone-requires t c = (omega (arith, c.requires), tt)
 
 pub unop-returns : goal.unop-returns
-unop-returns t c = unop_lowers _ _ _ c.children_of-first.ensures _ _ c.node_flag-op.ensures c.if-op-eq0.false c.opt-e.ensures c.alloc_lone.ensures
+unop-returns t c = unop_lowers _ _ _ (one_child _ _ c.kid-first.ensures c.node_pointer-p.ensures) _ _ c.node_flag-op.ensures c.if-op-eq0.false c.opt-e.ensures c.alloc_lone.ensures
