@@ -35,9 +35,8 @@ use Rattle.merge.specs.Finishes.{binding_items}
 use Rattle.merge.proofs.Steps.{fits, all_lower}
 use Rattle.merge.proofs.Items.{bindings_items, bindings_suit}
 use Rattle.lower.specs.Sizes.{below, sizes}
-use Rattle.lower.specs.Reads.{HasChildren}
 use Rattle.lower.specs.Parts.{lower_at, merge_at}
-use Rattle.lower.specs.declared.reads.Children.{Children}
+use Rattle.lower.proofs.ChildLaws.{Children, HasChildren}
 use Rattle.lower.proofs.SizeLaws.{heft_place, own_and_below}
 use Rattle.lower.proofs.TurnLaws.{next}
 use Rattle.lower.proofs.WaitLaws.{taken_from}

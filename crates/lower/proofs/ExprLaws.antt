@@ -29,9 +29,8 @@ use Rattle.merge.specs.Lowers.{Lowering}
 use Rattle.merge.proofs.Steps.{gave, yes_when, no_when, fits, all_lower}
 use Rattle.merge.proofs.Allocs.{missing_taken}
 use Rattle.lower.specs.Sizes.{below, place, heft}
-use Rattle.lower.specs.Reads.{HasChildren}
 use Rattle.lower.specs.Parts.{lower_at, merge_at, LowersNode, form_of, IsForm}
-use Rattle.lower.specs.declared.reads.Children.{Children}
+use Rattle.lower.proofs.ChildLaws.{Children, HasChildren}
 use Rattle.lower.proofs.TurnLaws.{next}
 use Rattle.lower.proofs.SizeLaws.{own_and_below, heft_place, three_below}
 use Rattle.std.specs.Prelude as rust

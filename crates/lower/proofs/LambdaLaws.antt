@@ -39,9 +39,9 @@ use Rattle.merge.specs.Lowers.{Lowers, Lowering, Collecting}
 use Rattle.merge.proofs.Allocs.{none_suit}
 use Rattle.merge.proofs.Steps.{gave, as_step, fits, all_lower}
 use Rattle.lower.specs.Sizes.{sized, below, sizes, place}
-use Rattle.lower.specs.Reads.{HasChildren, HasParam, ident_of, owner_of, ellipsis_of, pattern_of, attrs_from}
+use Rattle.lower.specs.Reads.{HasParam, ident_of, owner_of, ellipsis_of, pattern_of, attrs_from}
 use Rattle.lower.specs.Parts.{lower_at, merge_at, field_item, one}
-use Rattle.lower.specs.declared.reads.Children.{Children}
+use Rattle.lower.proofs.ChildLaws.{Children, HasChildren}
 use Rattle.lower.specs.declared.reads.Param.{Param}
 use Rattle.lower.proofs.SizeLaws.{own_and_below, heft_place, three_below, param_size}
 use Rattle.lower.proofs.TurnLaws.{next}

@@ -1,3 +1,4 @@
+pub mod ChildLaws
 pub mod SizeLaws
 pub mod TurnLaws
 pub mod WaitLaws

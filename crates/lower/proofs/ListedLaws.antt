@@ -35,9 +35,8 @@ use Rattle.merge.specs.Room.{price, ◌⊕◌, covers, nothing, one_expr, one_it
 use Rattle.merge.specs.Lowers.{Lowering, Collecting}
 use Rattle.merge.proofs.Steps.{yes_when, no_when, fits, all_lower}
 use Rattle.lower.specs.Sizes.{sized, below, place}
-use Rattle.lower.specs.Reads.{HasChildren}
 use Rattle.lower.specs.Parts.{lower_at, merge_at, part_item, one}
-use Rattle.lower.specs.declared.reads.Children.{Children}
+use Rattle.lower.proofs.ChildLaws.{Children, HasChildren}
 use Rattle.lower.proofs.SizeLaws.{own_and_below, heft_place, kid_below, three_below}
 use Rattle.lower.proofs.TurnLaws.{next}
 use Rattle.lower.proofs.WaitLaws.{children_back, parts_back, children_suit, parts_suit, pushed_giving, taken_from, all_collect}

@@ -40,9 +40,9 @@ use Rattle.merge.specs.Merges.{value_price, nested_price, inherit_price, Inherit
 use Rattle.merge.proofs.Steps.{then_open, gave, asked, as_step, yes_when, no_when, fits, all_lower}
 use Rattle.merge.proofs.KeySteps.{nested_open}
 use Rattle.lower.specs.Sizes.{sized, below, sizes, place, heft}
-use Rattle.lower.specs.Reads.{HasChildren, attrs_from, FirstIn, nested_for, into_of, GoesInto}
+use Rattle.lower.specs.Reads.{attrs_from, FirstIn, nested_for, into_of, GoesInto}
 use Rattle.lower.specs.Parts.{lower_at, merge_at}
-use Rattle.lower.specs.declared.reads.Children.{Children}
+use Rattle.lower.proofs.ChildLaws.{Children, HasChildren}
 use Rattle.lower.proofs.SizeLaws.{heft_place, own_and_below, kid_below, three_below}
 use Rattle.lower.proofs.TurnLaws.{next}
 use Rattle.lower.proofs.ExprLaws.{Opt}

@@ -1,7 +1,7 @@
 -- What lowering reads of nodes and open sets, by what the readers say. Assumes nothing.
 use mathlib.Core.Path.{◌≡◌, refl}
 use mathlib.Core.Bool.{Bool, true, false}
-use mathlib.Core.List.{List, []}
+use mathlib.Core.List.{List}
 use mathlib.Core.Option.{Option, none, some}
 use Prim.Native.Nat.{ℕ, ◌+◌, ◌*◌, ◌≤◌}
 use native.Mathlib.Omega.{arith}
@@ -109,10 +109,6 @@ module _ (s : List ℕ) (i : ℕ) (place : rust.Option code_id.NodeId) where
 
 -- what a caller knows of the answer
 module _ (nodes : List Node) (i : ℕ) (place : Option NodeId) (r : rust.Option (code_id.NodeId × ℕ)) (e : NextIn nodes i place r) where
-  pub in_end : r ≡ rust.None → attrs_from nodes i place ≡ []
-  unfolding NextIn
-  in_end q = rw q at e
-
   pub in_first : (k : code_id.NodeId) (j : ℕ) → r ≡ rust.Some (k, j) → FirstIn nodes i place k.0 j
   unfolding NextIn
   in_first k j q = rw q at e

@@ -14,8 +14,8 @@ use Rattle.spec.proofs.tree.Sizes.{Weighs, place_size, positive, places_three, f
 use Rattle.keys.proofs.ItemLaws.{items_after_are}
 use Rattle.module.specs.Ids.{node_of}
 use Rattle.lower.specs.Sizes.{sized, below, sizes, place, heft}
-use Rattle.lower.specs.Reads.{HasChildren, HasParam, ident_of, owner_of, attrs_from}
-use Rattle.lower.specs.declared.reads.Children.{Children}
+use Rattle.lower.specs.Reads.{HasParam, ident_of, owner_of, attrs_from}
+use Rattle.lower.proofs.ChildLaws.{Children, HasChildren}
 use Rattle.lower.specs.declared.reads.Param.{Param}
 
 pub place_size_lem : (nodes : List Node) (p : Option NodeId) → place nodes p ≡ place_size nodes p

@@ -14,18 +14,10 @@ use Rattle.layout.specs.Nodes.{nodes_of}
 use Rattle.layout.specs.States.{state_of}
 use Rattle.keys.specs.Items.{items_from}
 use Rattle.merge.specs.Lowers.{Lowerable}
-use Rattle.lower.specs.declared.reads.Children.{Children}
 use Rattle.lower.specs.declared.reads.Param.{Param}
 use Rattle.module.specs.declared.ids.NodeId as rust_node_id
 use Rattle.open_sets.specs.declared.entry.SetId as rust_set_id
 use Rattle.std.specs.Prelude as rust
-
--- ---- a node: its counted places and its pointer
-pub record HasChildren (nodes : List Node) (n : NodeId) (r : Children) : Type 0 where
-  pub first : node_of r.first ≡ kid nodes 0 n
-  pub second : node_of r.second ≡ kid nodes 1 n
-  pub third : node_of r.third ≡ kid nodes 2 n
-  pub pointed : pointer_of r.pointer ≡ pointer nodes n
 
 -- ---- a parameter
 -- the Ident that names it: an IdentParam's own, a Pattern's in its PatBind

@@ -28,7 +28,7 @@ ghost use Rattle.lower.specs.Reads.{attrs_from};
 use crate::leaves::{
     alloc_lone, attr_name, ident, literal, lower_name, missing_node, pair_form, uri,
 };
-use crate::reads::{Children, Param, children_of, first_entry, into_set, next_in, param_of};
+use crate::reads::{Param, first_entry, into_set, next_in, param_of};
 use intake::{kid, kid_count, node_flag, node_pointer, node_text, syntax_kind};
 use keys::{AttrKind, attr_kind, get_str_literal, has_interpolation, name_kind_of_set};
 use merge::{
@@ -106,12 +106,9 @@ fn pair(store: &mut [u8], depth: u32, n: NodeId, kind: SyntaxKind) -> ExprId
     requires { Long store.old }
     ensures { Lowering 0 (below n.0) own_node (λ nodes. lowering.pair nodes (lower_at depth nodes) (merge_at depth nodes) (form_of (number_of_syntax kind)) n.0) store.old result.0 store.new }
 {
-    let Children {
-        first,
-        second,
-        pointer: p,
-        ..
-    } = children_of(store, n);
+    let first = kid(store, n, 0);
+    let second = kid(store, n, 1);
+    let p = node_pointer(store, n);
     let a = opt(store, depth, first);
     let b = opt(store, depth, second);
     alloc_lone(store, pair_form(kind, a, b), p)
@@ -123,12 +120,10 @@ fn cond(store: &mut [u8], depth: u32, n: NodeId) -> ExprId
     requires { Long store.old }
     ensures { Lowering 0 (below n.0) own_node (λ nodes. lower_if_else nodes (lower_at depth nodes) (merge_at depth nodes) n.0) store.old result.0 store.new }
 {
-    let Children {
-        first,
-        second,
-        third,
-        pointer: p,
-    } = children_of(store, n);
+    let first = kid(store, n, 0);
+    let second = kid(store, n, 1);
+    let third = kid(store, n, 2);
+    let p = node_pointer(store, n);
     let cond = opt(store, depth, first);
     let then_body = opt(store, depth, second);
     let else_body = opt(store, depth, third);
@@ -142,12 +137,10 @@ fn get(store: &mut [u8], depth: u32, n: NodeId) -> ExprId
     ensures { Lowering 0 (below n.0) own_node (λ nodes. lower_select nodes (lower_at depth nodes) (merge_at depth nodes) n.0) store.old result.0 store.new }
 {
     let base = waiting_count(store);
-    let Children {
-        first,
-        second,
-        third,
-        pointer: p,
-    } = children_of(store, n);
+    let first = kid(store, n, 0);
+    let second = kid(store, n, 1);
+    let third = kid(store, n, 2);
+    let p = node_pointer(store, n);
     let set = opt(store, depth, first);
     attrs(store, depth, second);
     let default_expr = there(store, depth, third);
@@ -161,12 +154,9 @@ fn has(store: &mut [u8], depth: u32, n: NodeId) -> ExprId
     ensures { Lowering 0 (below n.0) own_node (λ nodes. lower_has_attr nodes (lower_at depth nodes) (merge_at depth nodes) n.0) store.old result.0 store.new }
 {
     let base = waiting_count(store);
-    let Children {
-        first,
-        second,
-        pointer: p,
-        ..
-    } = children_of(store, n);
+    let first = kid(store, n, 0);
+    let second = kid(store, n, 1);
+    let p = node_pointer(store, n);
     let set = opt(store, depth, first);
     attrs(store, depth, second);
     alloc_expr(store, Expr::HasAttr(set), base, p)
@@ -275,12 +265,9 @@ fn lambda(store: &mut [u8], depth: u32, n: NodeId) -> ExprId
     ensures { Lowering 0 (below n.0) own_node (λ nodes. lower_lambda nodes (lower_at depth nodes) (merge_at depth nodes) n.0) store.old result.0 store.new }
 {
     let base = waiting_count(store);
-    let Children {
-        first,
-        second,
-        pointer: p,
-        ..
-    } = children_of(store, n);
+    let first = kid(store, n, 0);
+    let second = kid(store, n, 1);
+    let p = node_pointer(store, n);
     let Param {
         ident,
         owner,
@@ -314,7 +301,8 @@ fn field(store: &mut [u8], depth: u32, n: NodeId)
     requires { Long store.old }
     ensures { Collecting 0 (λ nodes. sized nodes n.0) nothing (one field_item) (λ nodes. lower_field nodes (lower_at depth nodes) (merge_at depth nodes) n.0) store.old store.new }
 {
-    let Children { first, second, .. } = children_of(store, n);
+    let first = kid(store, n, 0);
+    let second = kid(store, n, 1);
     let x = lower_name(store, NameKind::PatField, first);
     let e = there(store, depth, second);
     push_item(store, Item::Field(x, e));
@@ -327,11 +315,8 @@ fn let_in(store: &mut [u8], depth: u32, n: NodeId) -> ExprId
     ensures { Lowering 0 (below n.0) own_node (λ nodes. lower_let_in nodes (lower_at depth nodes) (merge_at depth nodes) n.0) store.old result.0 store.new }
 {
     let base = waiting_count(store);
-    let Children {
-        first,
-        pointer: p,
-        ..
-    } = children_of(store, n);
+    let first = kid(store, n, 0);
+    let p = node_pointer(store, n);
     binds(store, depth, NameKind::LetIn, n);
     let body = opt(store, depth, first);
     alloc_expr(store, Expr::LetIn(body), base, p)
@@ -360,12 +345,9 @@ fn binop(store: &mut [u8], depth: u32, n: NodeId) -> ExprId
     requires { Long store.old }
     ensures { Lowering 0 (below n.0) own_node (λ nodes. lower_bin_op nodes (lower_at depth nodes) (merge_at depth nodes) n.0) store.old result.0 store.new }
 {
-    let Children {
-        first,
-        second,
-        pointer: p,
-        ..
-    } = children_of(store, n);
+    let first = kid(store, n, 0);
+    let second = kid(store, n, 1);
+    let p = node_pointer(store, n);
     let op = node_flag(store, n);
     let lhs = opt(store, depth, first);
     if op == 0 {
@@ -395,11 +377,8 @@ fn unop(store: &mut [u8], depth: u32, n: NodeId) -> ExprId
     requires { Long store.old }
     ensures { Lowering 0 (below n.0) own_node (λ nodes. lower_unary_op nodes (lower_at depth nodes) (merge_at depth nodes) n.0) store.old result.0 store.new }
 {
-    let Children {
-        first,
-        pointer: p,
-        ..
-    } = children_of(store, n);
+    let first = kid(store, n, 0);
+    let p = node_pointer(store, n);
     let op = node_flag(store, n);
     if op == 0 {
         return alloc_missing(store);
@@ -510,7 +489,8 @@ fn put(store: &mut [u8], depth: u32, s: SetId, n: NodeId)
     requires { Long store.old }
     ensures { Lowering (suc s.0) (λ nodes. sized nodes n.0) nothing (λ nodes. merge_attrpath_val nodes (lower_at depth nodes) (merge_at depth nodes) s.0 n.0) store.old tt store.new }
 {
-    let Children { first, second, .. } = children_of(store, n);
+    let first = kid(store, n, 0);
+    let second = kid(store, n, 1);
     match next_in(store, first, 0) {
         None => push(store, depth, s, None, second),
         Some((a, after)) => nested(store, depth, s, first, a, after, second),

@@ -6,34 +6,13 @@ ghost use Rattle.layout.specs.Texts.{text_in};
 ghost use Rattle.std.proofs.Math.Option.{some};
 ghost use Rattle.spec.specs.Keys.{flag, kid_of};
 ghost use Rattle.module.specs.Ids.{node_of};
-ghost use Rattle.lower.specs.Reads.{HasChildren, HasParam, pattern_of, NextIn, FirstEntry, GoesInto};
+ghost use Rattle.lower.specs.Reads.{HasParam, pattern_of, NextIn, FirstEntry, GoesInto};
 
-use intake::{kid, node_flag, node_pointer, syntax_kind};
+use intake::{kid, node_flag, syntax_kind};
 use keys::next_item;
 use merge::nested_at;
-use module::{NodeId, Pattern, Pointer, SyntaxKind, TextId};
+use module::{NodeId, Pattern, SyntaxKind, TextId};
 use open_sets::SetId;
-
-// The counted places of a node, of which none has more than three, and its pointer.
-#[derive(Clone, Copy)]
-pub struct Children {
-    pub first: Option<NodeId>,
-    pub second: Option<NodeId>,
-    pub third: Option<NodeId>,
-    pub pointer: Pointer,
-}
-
-pub fn children_of(store: &[u8], n: NodeId) -> Children
-    requires { Long store.now }
-    ensures { HasChildren (nodes_of store.now) n.0 result }
-{
-    Children {
-        first: kid(store, n, 0),
-        second: kid(store, n, 1),
-        third: kid(store, n, 2),
-        pointer: node_pointer(store, n),
-    }
-}
 
 // The parameter of a Lambda: the Ident that names it, the Pattern whose fields there are, and what the
 // expression says of that.

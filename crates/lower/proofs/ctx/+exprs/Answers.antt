@@ -1,4 +1,5 @@
 -- The functions of the cycle `+exprs` meet their contracts.
+use Rattle.lower.proofs.ChildLaws.{one_child, two_children, two_places, three_children}
 use Rattle.lower.proofs.BindingLaws.{let_lowers, set_lowers}
 use Rattle.lower.proofs.ExprLaws.{binop_missing, binop_lowers, cond_lowers, opt_node, opt_absent, pair_lowers, there_node, there_absent, unop_missing, unop_lowers}
 use Rattle.lower.proofs.InnerLaws.{desugar_lowers, nest_lowers}
@@ -25,564 +26,6 @@ use Rattle.lower.proofs.ctx.+exprs.Goals as goal
 
 -- ---- attr
 
--- ---- attrs
-
--- ---- binds
-
-pub binds-set_count-sets-requires : goal.binds-set_count-sets-requires
-binds-set_count-sets-requires t c = omega (arith, c.requires)
-
-pub binds-entry_count-open-requires : goal.binds-entry_count-open-requires
-binds-entry_count-open-requires t c = omega (arith, c.requires)
-
-pub binds-node_pointer-p-requires : goal.binds-node_pointer-p-requires
-binds-node_pointer-p-requires t c = omega (arith, c.requires)
-
-pub binds-open_set-s-requires : goal.binds-open_set-s-requires
-binds-open_set-s-requires t c = omega (arith, c.requires)
-
-pub binds-entries-requires : goal.binds-entries-requires
-binds-entries-requires t c = (omega (arith, c.decreases), omega (arith, c.requires))
-
-pub binds-finish_set-requires : goal.binds-finish_set-requires
-binds-finish_set-requires t c = omega (arith, c.requires)
-
-pub binds-cut-requires : goal.binds-cut-requires
-binds-cut-requires t c = omega (arith, c.requires)
-
-pub binds-returns : goal.binds-returns
-binds-returns t c = desugar_lowers _ _ _ _ c.set_count-sets.ensures.0 c.entry_count-open.ensures.0 c.node_pointer-p.ensures c.open_set-s.ensures.0 c.entries.ensures c.finish_set.ensures c.cut.ensures
-
--- ---- binop
-
-pub binop-children_of-first-requires : goal.binop-children_of-first-requires
-binop-children_of-first-requires t c = omega (arith, c.requires)
-
-pub binop-node_flag-op-requires : goal.binop-node_flag-op-requires
-binop-node_flag-op-requires t c = omega (arith, c.requires)
-
-pub binop-opt-lhs-requires : goal.binop-opt-lhs-requires
-binop-opt-lhs-requires t c = (omega (arith, c.decreases), omega (arith, c.requires))
-
-pub binop-alloc_missing-requires : goal.binop-alloc_missing-requires
-binop-alloc_missing-requires t c = omega (arith, c.requires)
-
-pub binop-returns-then-op-eq0 : goal.binop-returns-then-op-eq0
-binop-returns-then-op-eq0 t c = binop_missing _ _ _ c.children_of-first.ensures _ _ c.node_flag-op.ensures c.opt-lhs.ensures c.if-op-eq0.true c.alloc_missing.ensures
-
-pub binop-opt-rhs-requires : goal.binop-opt-rhs-requires
-binop-opt-rhs-requires t c = (omega (arith, c.decreases), omega (arith, c.requires))
-
-pub binop-alloc_lone-requires : goal.binop-alloc_lone-requires
-unfolding ValidExpr
-binop-alloc_lone-requires t c = (omega (arith, c.requires), tt)
-
-pub binop-returns : goal.binop-returns
-binop-returns t c = binop_lowers _ _ _ c.children_of-first.ensures _ _ _ c.node_flag-op.ensures c.opt-lhs.ensures c.if-op-eq0.false c.opt-rhs.ensures c.alloc_lone.ensures
-
--- ---- cond
-
-pub cond-children_of-first-requires : goal.cond-children_of-first-requires
-cond-children_of-first-requires t c = omega (arith, c.requires)
-
-pub cond-opt-cond-requires : goal.cond-opt-cond-requires
-cond-opt-cond-requires t c = (omega (arith, c.decreases), omega (arith, c.requires))
-
-pub cond-opt-then_body-requires : goal.cond-opt-then_body-requires
-cond-opt-then_body-requires t c = (omega (arith, c.decreases), omega (arith, c.requires))
-
-pub cond-opt-else_body-requires : goal.cond-opt-else_body-requires
-cond-opt-else_body-requires t c = (omega (arith, c.decreases), omega (arith, c.requires))
-
-pub cond-alloc_lone-requires : goal.cond-alloc_lone-requires
-unfolding ValidExpr
-cond-alloc_lone-requires t c = (omega (arith, c.requires), tt)
-
-pub cond-returns : goal.cond-returns
-cond-returns t c = cond_lowers _ _ _ c.children_of-first.ensures _ _ _ c.opt-cond.ensures c.opt-then_body.ensures c.opt-else_body.ensures c.alloc_lone.ensures
-
--- ---- entries
-
-pub entries-first_entry-i-requires : goal.entries-first_entry-i-requires
-entries-first_entry-i-requires t c = omega (arith, c.requires)
-
--- ---- entry
-
--- ---- expr
-
-pub expr-alloc_missing-requires : goal.expr-alloc_missing-requires
-expr-alloc_missing-requires t c = omega (arith, c.requires)
-
-pub expr-returns-then-depth-eq0 : goal.expr-returns-then-depth-eq0
-expr-returns-then-depth-eq0 t c = too_deep _ _ c.if-depth-eq0.true c.alloc_missing.ensures
-
-pub expr-overflow_sub-d : goal.expr-overflow_sub-d
-expr-overflow_sub-d t c = omega arith
-
--- ---- field
-
-pub field-children_of-first-requires : goal.field-children_of-first-requires
-field-children_of-first-requires t c = omega (arith, c.requires)
-
-pub field-lower_name-x-requires : goal.field-lower_name-x-requires
-field-lower_name-x-requires t c = omega (arith, c.requires)
-
-pub field-there-e-requires : goal.field-there-e-requires
-field-there-e-requires t c = (omega (arith, c.decreases), omega (arith, c.requires))
-
-pub field-push_item-requires : goal.field-push_item-requires
-field-push_item-requires t c = omega (arith, c.requires)
-
-pub field-returns : goal.field-returns
-field-returns t c = field_lowers _ _ _ _ _ c.children_of-first.ensures (name_lowers _ _ _ c.lower_name-x.ensures) c.there-e.ensures c.push_item.ensures
-
--- ---- fields
-
--- ---- get
-
-pub get-waiting_count-base-requires : goal.get-waiting_count-base-requires
-get-waiting_count-base-requires t c = omega (arith, c.requires)
-
-pub get-children_of-first-requires : goal.get-children_of-first-requires
-get-children_of-first-requires t c = omega (arith, c.requires)
-
-pub get-opt-set-requires : goal.get-opt-set-requires
-get-opt-set-requires t c = (omega (arith, c.decreases), omega (arith, c.requires))
-
-pub get-attrs-requires : goal.get-attrs-requires
-get-attrs-requires t c = (omega (arith, c.decreases), omega (arith, c.requires))
-
-pub get-there-default_expr-requires : goal.get-there-default_expr-requires
-get-there-default_expr-requires t c = (omega (arith, c.decreases), omega (arith, c.requires))
-
-pub get-alloc_expr-requires : goal.get-alloc_expr-requires
-unfolding ValidExpr
-get-alloc_expr-requires t c = (omega (arith, c.requires), tt)
-
-pub get-returns : goal.get-returns
-get-returns t c = select_lowers _ _ _ _ c.waiting_count-base.ensures c.children_of-first.ensures _ c.opt-set.ensures c.attrs.ensures _ c.there-default_expr.ensures c.alloc_expr.ensures
-
--- ---- has
-
-pub has-waiting_count-base-requires : goal.has-waiting_count-base-requires
-has-waiting_count-base-requires t c = omega (arith, c.requires)
-
-pub has-children_of-first-requires : goal.has-children_of-first-requires
-has-children_of-first-requires t c = omega (arith, c.requires)
-
-pub has-opt-set-requires : goal.has-opt-set-requires
-has-opt-set-requires t c = (omega (arith, c.decreases), omega (arith, c.requires))
-
-pub has-attrs-requires : goal.has-attrs-requires
-has-attrs-requires t c = (omega (arith, c.decreases), omega (arith, c.requires))
-
-pub has-alloc_expr-requires : goal.has-alloc_expr-requires
-unfolding ValidExpr
-has-alloc_expr-requires t c = (omega (arith, c.requires), tt)
-
-pub has-returns : goal.has-returns
-has-returns t c = has_lowers _ _ _ _ c.waiting_count-base.ensures c.children_of-first.ensures _ c.opt-set.ensures c.attrs.ensures c.alloc_expr.ensures
-
--- ---- heir
-
-pub heir-node_pointer-p-requires : goal.heir-node_pointer-p-requires
-heir-node_pointer-p-requires t c = omega (arith, c.requires)
-
-pub heir-attr_kind-requires : goal.heir-attr_kind-requires
-heir-attr_kind-requires t c = omega (arith, c.requires)
-
-pub heir-inherit_value-v-requires : goal.heir-inherit_value-v-requires
-heir-inherit_value-v-requires t c = omega (arith, c.requires)
-
-pub heir-merge_static_value-requires : goal.heir-merge_static_value-requires
-heir-merge_static_value-requires t c = omega (arith, c.requires)
-
-pub heir-push-requires : goal.heir-push-requires
-heir-push-requires t c = (omega (arith, c.decreases), omega (arith, c.requires))
-
-pub heir-returns-in-Static : goal.heir-returns-in-Static
-heir-returns-in-Static t c = inherit_static _ _ _ _ c.attr_kind.ensures _ _ _ _ c.node_pointer-p.ensures c.in-Static.is c.inherit_value-v.ensures c.merge_static_value.ensures
-
-pub heir-returns-in-Dynamic : goal.heir-returns-in-Dynamic
-heir-returns-in-Dynamic t c = inherit_dynamic _ _ _ _ c.attr_kind.ensures _ _ c.in-Dynamic.is c.push.ensures
-
--- ---- inherit
-
-pub inherit-kid-place-requires : goal.inherit-kid-place-requires
-inherit-kid-place-requires t c = omega (arith, c.requires)
-
-pub inherit-src-from_set-requires : goal.inherit-src-from_set-requires
-inherit-src-from_set-requires t c = (omega (arith, c.decreases), omega (arith, c.requires))
-
--- ---- join
-
-pub join-returns-then-depth-eq0 : goal.join-returns-then-depth-eq0
-join-returns-then-depth-eq0 t c = bindings_none _ _ _ c.if-depth-eq0.true
-
-pub join-overflow_sub-depth : goal.join-overflow_sub-depth
-join-overflow_sub-depth t c = omega arith
-
-pub join-entries-requires : goal.join-entries-requires
-join-entries-requires t c = (omega (arith, c.decreases), omega (arith, c.requires))
-
-pub join-returns : goal.join-returns
-join-returns t c = bindings_there _ _ _ c.if-depth-eq0.false c.entries.ensures
-
--- ---- keyed
-
-pub keyed-into_set-requires : goal.keyed-into_set-requires
-keyed-into_set-requires t c = omega (arith, c.requires)
-
-pub keyed-join-requires : goal.keyed-join-requires
-keyed-join-requires t c = (omega (arith, c.decreases), omega (arith, c.requires))
-
-pub keyed-node_pointer-p-requires : goal.keyed-node_pointer-p-requires
-keyed-node_pointer-p-requires t c = omega (arith, c.requires)
-
-pub keyed-opt-e-requires : goal.keyed-opt-e-requires
-keyed-opt-e-requires t c = (omega (arith, c.decreases), omega (arith, c.requires))
-
-pub keyed-merge_static_value-requires : goal.keyed-merge_static_value-requires
-keyed-merge_static_value-requires t c = omega (arith, c.requires)
-
-pub keyed-returns-in-Some : goal.keyed-returns-in-Some
-keyed-returns-in-Some t c = keyed_merged _ _ _ _ _ _ _ _ c.into_set.ensures c.in-Some.is c.join.ensures
-
-pub keyed-returns-in-None : goal.keyed-returns-in-None
-keyed-returns-in-None t c = keyed_other _ _ _ _ _ _ _ _ c.into_set.ensures c.in-None.is c.node_pointer-p.ensures c.opt-e.ensures c.merge_static_value.ensures
-
--- ---- lambda
-
-pub lambda-waiting_count-base-requires : goal.lambda-waiting_count-base-requires
-lambda-waiting_count-base-requires t c = omega (arith, c.requires)
-
-pub lambda-children_of-first-requires : goal.lambda-children_of-first-requires
-lambda-children_of-first-requires t c = omega (arith, c.requires)
-
-pub lambda-param_of-ident-requires : goal.lambda-param_of-ident-requires
-lambda-param_of-ident-requires t c = omega (arith, c.requires)
-
-pub lambda-lower_name-name-requires : goal.lambda-lower_name-name-requires
-lambda-lower_name-name-requires t c = omega (arith, c.requires)
-
-pub lambda-fields-requires : goal.lambda-fields-requires
-lambda-fields-requires t c = (omega (arith, c.decreases), omega (arith, c.requires))
-
-pub lambda-opt-body-requires : goal.lambda-opt-body-requires
-lambda-opt-body-requires t c = (omega (arith, c.decreases), omega (arith, c.requires))
-
-pub lambda-alloc_expr-requires : goal.lambda-alloc_expr-requires
-unfolding ValidExpr
-lambda-alloc_expr-requires t c = (omega (arith, c.requires), tt)
-
-pub lambda-returns : goal.lambda-returns
-lambda-returns t c = lambda_lowers _ _ _ _ _ _ _ c.waiting_count-base.ensures c.children_of-first.ensures c.param_of-ident.ensures (name_lowers _ _ _ c.lower_name-name.ensures) c.fields.ensures c.opt-body.ensures c.alloc_expr.ensures
-
--- ---- last
-
-pub last-attr_kind-requires : goal.last-attr_kind-requires
-last-attr_kind-requires t c = omega (arith, c.requires)
-
-pub last-keyed-requires : goal.last-keyed-requires
-last-keyed-requires t c = (omega (arith, c.decreases), omega (arith, c.requires))
-
-pub last-push-requires : goal.last-push-requires
-last-push-requires t c = (omega (arith, c.decreases), omega (arith, c.requires))
-
-pub last-returns-in-Static : goal.last-returns-in-Static
-last-returns-in-Static t c = value_static _ _ _ _ c.attr_kind.ensures _ _ c.in-Static.is c.keyed.ensures
-
-pub last-returns-in-Dynamic : goal.last-returns-in-Dynamic
-last-returns-in-Dynamic t c = value_dynamic _ _ _ _ c.attr_kind.ensures _ _ c.in-Dynamic.is c.push.ensures
-
--- ---- let_in
-
-pub let_in-waiting_count-base-requires : goal.let_in-waiting_count-base-requires
-let_in-waiting_count-base-requires t c = omega (arith, c.requires.0)
-
-pub let_in-children_of-first-requires : goal.let_in-children_of-first-requires
-let_in-children_of-first-requires t c = omega (arith, c.requires.0)
-
-pub let_in-binds-requires : goal.let_in-binds-requires
-let_in-binds-requires t c = (omega (arith, c.decreases), omega (arith, c.requires.0))
-
-pub let_in-opt-body-requires : goal.let_in-opt-body-requires
-let_in-opt-body-requires t c = (omega (arith, c.decreases), omega (arith, c.requires.0))
-
-pub let_in-alloc_expr-requires : goal.let_in-alloc_expr-requires
-unfolding ValidExpr
-let_in-alloc_expr-requires t c = (omega (arith, c.requires.0), tt)
-
-pub let_in-returns : goal.let_in-returns
-let_in-returns t c = let_lowers _ _ _ _ _ c.requires.1 c.waiting_count-base.ensures c.children_of-first.ensures c.binds.ensures c.opt-body.ensures c.alloc_expr.ensures
-
--- ---- list
-
-pub list-waiting_count-base-requires : goal.list-waiting_count-base-requires
-list-waiting_count-base-requires t c = omega (arith, c.requires)
-
-pub list-node_pointer-p-requires : goal.list-node_pointer-p-requires
-list-node_pointer-p-requires t c = omega (arith, c.requires)
-
-pub list-alloc_expr-requires : goal.list-alloc_expr-requires
-unfolding ValidExpr
-list-alloc_expr-requires t c = search rules
-
--- ---- nest
-
-pub nest-set_count-sets-requires : goal.nest-set_count-sets-requires
-nest-set_count-sets-requires t c = omega (arith, c.requires)
-
-pub nest-entry_count-open-requires : goal.nest-entry_count-open-requires
-nest-entry_count-open-requires t c = omega (arith, c.requires)
-
-pub nest-open_set-t-requires : goal.nest-open_set-t-requires
-nest-open_set-t-requires t c = omega (arith, c.requires)
-
-pub nest-nested-requires : goal.nest-nested-requires
-nest-nested-requires t c = (omega (arith, c.decreases), omega (arith, c.requires))
-
-pub nest-finish_nested-e-requires : goal.nest-finish_nested-e-requires
-nest-finish_nested-e-requires t c = omega (arith, c.requires)
-
-pub nest-cut-requires : goal.nest-cut-requires
-nest-cut-requires t c = omega (arith, c.requires)
-
-pub nest-returns : goal.nest-returns
-nest-returns t c = nest_lowers _ _ _ _ _ _ c.set_count-sets.ensures.0 c.entry_count-open.ensures.0 c.open_set-t.ensures.0 c.nested.ensures c.finish_nested-e.ensures c.cut.ensures
-
--- ---- nested
-
-pub nested-next_in-requires : goal.nested-next_in-requires
-nested-next_in-requires t c = omega (arith, c.requires)
-
-pub nested-last-requires : goal.nested-last-requires
-nested-last-requires t c = (omega (arith, c.decreases), omega (arith, c.requires))
-
-pub nested-step-requires : goal.nested-step-requires
-nested-step-requires t c = let f = in_first _ _ _ _ c.next_in.ensures _ _ c.in-Some.is in (omega (arith, c.decreases, f.onward, f.inside), omega (arith, c.requires))
-
-pub nested-returns-in-None : goal.nested-returns-in-None
-unfolding NextIn
-nested-returns-in-None t c = nested_last _ _ _ _ _ _ (rw c.in-None.is at c.next_in.ensures) c.last.ensures
-
-pub nested-returns-in-Some : goal.nested-returns-in-Some
-unfolding NextIn
-nested-returns-in-Some t c = nested_before _ _ _ _ _ _ (rw c.in-Some.is at c.next_in.ensures) c.step.ensures
-
--- ---- opt
-
-pub opt-expr-requires : goal.opt-expr-requires
-opt-expr-requires t c = (omega (arith, c.decreases), omega (arith, c.requires))
-
-pub opt-alloc_missing-requires : goal.opt-alloc_missing-requires
-opt-alloc_missing-requires t c = omega (arith, c.requires)
-
-pub opt-returns-in-Some : goal.opt-returns-in-Some
-opt-returns-in-Some t c = opt_node _ _ c.in-Some.is c.expr.ensures
-
-pub opt-returns-in-None : goal.opt-returns-in-None
-opt-returns-in-None t c = opt_absent _ c.in-None.is c.alloc_missing.ensures
-
--- ---- pair
-
-pub pair-children_of-first-requires : goal.pair-children_of-first-requires
-pair-children_of-first-requires t c = omega (arith, c.requires)
-
-pub pair-opt-a-requires : goal.pair-opt-a-requires
-pair-opt-a-requires t c = (omega (arith, c.decreases), omega (arith, c.requires))
-
-pub pair-opt-b-requires : goal.pair-opt-b-requires
-pair-opt-b-requires t c = (omega (arith, c.decreases), omega (arith, c.requires))
-
-pub pair-alloc_lone-requires : goal.pair-alloc_lone-requires
-pair-alloc_lone-requires t c = (omega (arith, c.requires), c.pair_form.ensures.valid)
-
-pub pair-returns : goal.pair-returns
-pair-returns t c = pair_lowers _ _ _ c.children_of-first.ensures _ _ c.opt-a.ensures c.opt-b.ensures c.pair_form.ensures c.alloc_lone.ensures
-
--- ---- part
-
--- ---- parts
-
--- ---- path
-
-pub path-node_pointer-p-requires : goal.path-node_pointer-p-requires
-path-node_pointer-p-requires t c = omega (arith, c.requires)
-
-pub path-waiting_count-base-requires : goal.path-waiting_count-base-requires
-path-waiting_count-base-requires t c = omega (arith, c.requires)
-
-pub path-has_interpolation-requires : goal.path-has_interpolation-requires
-path-has_interpolation-requires t c = omega (arith, c.requires)
-
-pub path-parts-requires : goal.path-parts-requires
-path-parts-requires t c = (omega (arith, c.decreases), omega (arith, c.requires))
-
-pub path-alloc_expr-requires : goal.path-alloc_expr-requires
-unfolding ValidExpr
-path-alloc_expr-requires t c = (omega (arith, c.requires), tt)
-
-pub path-returns-then-has_interpolation : goal.path-returns-then-has_interpolation
-path-returns-then-has_interpolation t c = path_parts _ _ _ c.node_pointer-p.ensures _ c.has_interpolation.ensures _ c.waiting_count-base.ensures c.if-has_interpolation.true c.parts.ensures c.alloc_expr.ensures
-
-pub path-node_text-t-requires : goal.path-node_text-t-requires
-path-node_text-t-requires t c = omega (arith, c.requires)
-
-pub path-alloc_lone-requires : goal.path-alloc_lone-requires
-unfolding ValidExpr Valid
-path-alloc_lone-requires t c = (omega (arith, c.requires), tt)
-
-pub path-returns : goal.path-returns
-path-returns t c = path_literal _ _ _ c.node_pointer-p.ensures _ c.has_interpolation.ensures _ c.if-has_interpolation.false c.node_text-t.ensures c.alloc_lone.ensures
-
--- ---- push
-
-pub push-opt-k-requires : goal.push-opt-k-requires
-push-opt-k-requires t c = (omega (arith, c.decreases), omega (arith, c.requires))
-
-pub push-opt-v-requires : goal.push-opt-v-requires
-push-opt-v-requires t c = (omega (arith, c.decreases), omega (arith, c.requires))
-
-pub push-add_dynamic-requires : goal.push-add_dynamic-requires
-push-add_dynamic-requires t c = omega arith
-
-pub push-returns : goal.push-returns
-push-returns t c = dynamic_pushed _ _ _ _ c.opt-k.ensures c.opt-v.ensures c.add_dynamic.ensures
-
--- ---- put
-
-pub put-children_of-first-requires : goal.put-children_of-first-requires
-put-children_of-first-requires t c = omega (arith, c.requires)
-
-pub put-next_in-requires : goal.put-next_in-requires
-put-next_in-requires t c = omega (arith, c.requires)
-
-pub put-push-requires : goal.put-push-requires
-put-push-requires t c = (omega (arith, c.decreases), omega (arith, c.requires))
-
-pub put-nested-requires : goal.put-nested-requires
-put-nested-requires t c = (omega (arith, c.decreases), omega (arith, c.requires))
-
-pub put-returns-in-None : goal.put-returns-in-None
-unfolding NextIn
-put-returns-in-None t c = attrpath_none _ _ _ _ c.children_of-first.ensures (rw c.in-None.is at c.next_in.ensures) c.push.ensures
-
-pub put-returns-in-Some : goal.put-returns-in-Some
-unfolding NextIn
-put-returns-in-Some t c = attrpath_there _ _ _ _ c.children_of-first.ensures (rw c.in-Some.is at c.next_in.ensures) c.nested.ensures
-
--- ---- set
-
-pub set-waiting_count-base-requires : goal.set-waiting_count-base-requires
-set-waiting_count-base-requires t c = omega (arith, c.requires)
-
-pub set-node_pointer-p-requires : goal.set-node_pointer-p-requires
-set-node_pointer-p-requires t c = omega (arith, c.requires)
-
-pub set-name_kind_of_set-kind-requires : goal.set-name_kind_of_set-kind-requires
-set-name_kind_of_set-kind-requires t c = omega (arith, c.requires)
-
-pub set-node_flag-is_rec-requires : goal.set-node_flag-is_rec-requires
-set-node_flag-is_rec-requires t c = omega (arith, c.requires)
-
-pub set-binds-requires : goal.set-binds-requires
-set-binds-requires t c = (omega (arith, c.decreases), omega (arith, c.requires))
-
-pub set-alloc_expr-requires : goal.set-alloc_expr-requires
-unfolding ValidExpr
-set-alloc_expr-requires t c = (omega (arith, c.requires), tt)
-
-pub set-returns : goal.set-returns
-set-returns t c = set_lowers _ _ _ _ _ _ c.waiting_count-base.ensures c.node_pointer-p.ensures c.name_kind_of_set-kind.ensures c.node_flag-is_rec.ensures c.binds.ensures c.alloc_expr.ensures
-
--- ---- src
-
--- ---- step
-
-pub step-node_pointer-p-requires : goal.step-node_pointer-p-requires
-step-node_pointer-p-requires t c = omega (arith, c.requires)
-
-pub step-attr_kind-requires : goal.step-attr_kind-requires
-step-attr_kind-requires t c = omega (arith, c.requires)
-
-pub step-get_or_create_nested_static-t-requires : goal.step-get_or_create_nested_static-t-requires
-step-get_or_create_nested_static-t-requires t c = omega (arith, c.requires)
-
-pub step-nested-requires : goal.step-nested-requires
-step-nested-requires t c = (omega (arith, c.decreases), omega (arith, c.requires))
-
-pub step-nest-e-requires : goal.step-nest-e-requires
-step-nest-e-requires t c = (omega (arith, c.decreases), omega (arith, c.requires))
-
-pub step-opt-made-requires : goal.step-opt-made-requires
-step-opt-made-requires t c = (omega (arith, c.decreases), omega (arith, c.requires))
-
-pub step-add_dynamic-requires : goal.step-add_dynamic-requires
-step-add_dynamic-requires t c = omega arith
-
-pub step-returns-in-Static : goal.step-returns-in-Static
-step-returns-in-Static t c = step_static _ _ _ _ c.attr_kind.ensures _ c.node_pointer-p.ensures _ _ _ _ _ c.in-Static.is c.get_or_create_nested_static-t.ensures c.nested.ensures
-
-pub step-returns-in-Dynamic : goal.step-returns-in-Dynamic
-step-returns-in-Dynamic t c = step_dynamic _ _ _ _ c.attr_kind.ensures _ c.node_pointer-p.ensures _ _ _ _ _ c.in-Dynamic.is c.nest-e.ensures c.opt-made.ensures c.add_dynamic.ensures
-
--- ---- str
-
-pub str-node_pointer-p-requires : goal.str-node_pointer-p-requires
-str-node_pointer-p-requires t c = omega (arith, c.requires)
-
-pub str-waiting_count-base-requires : goal.str-waiting_count-base-requires
-str-waiting_count-base-requires t c = omega (arith, c.requires)
-
-pub str-get_str_literal-requires : goal.str-get_str_literal-requires
-str-get_str_literal-requires t c = omega (arith, c.requires)
-
-pub str-alloc_lone-requires : goal.str-alloc_lone-requires
-unfolding ValidExpr Valid
-str-alloc_lone-requires t c = (omega (arith, c.requires), tt)
-
-pub str-parts-requires : goal.str-parts-requires
-str-parts-requires t c = (omega (arith, c.decreases), omega (arith, c.requires))
-
-pub str-alloc_expr-requires : goal.str-alloc_expr-requires
-unfolding ValidExpr
-str-alloc_expr-requires t c = (omega (arith, c.requires), tt)
-
-pub str-returns-in-Some : goal.str-returns-in-Some
-str-returns-in-Some t c = string_literal _ _ _ c.node_pointer-p.ensures _ c.get_str_literal.ensures _ c.in-Some.is c.alloc_lone.ensures
-
-pub str-returns-in-None : goal.str-returns-in-None
-str-returns-in-None t c = string_parts _ _ _ c.node_pointer-p.ensures _ c.get_str_literal.ensures _ c.waiting_count-base.ensures c.in-None.is c.parts.ensures c.alloc_expr.ensures
-
--- ---- there
-
--- ---- unop
-
-pub unop-children_of-first-requires : goal.unop-children_of-first-requires
-unop-children_of-first-requires t c = omega (arith, c.requires)
-
-pub unop-node_flag-op-requires : goal.unop-node_flag-op-requires
-unop-node_flag-op-requires t c = omega (arith, c.requires)
-
-pub unop-alloc_missing-requires : goal.unop-alloc_missing-requires
-unop-alloc_missing-requires t c = omega (arith, c.requires)
-
-pub unop-returns-then-op-eq0 : goal.unop-returns-then-op-eq0
-unop-returns-then-op-eq0 t c = unop_missing _ _ _ c.node_flag-op.ensures c.if-op-eq0.true c.alloc_missing.ensures
-
-pub unop-opt-e-requires : goal.unop-opt-e-requires
-unop-opt-e-requires t c = (omega (arith, c.decreases), omega (arith, c.requires))
-
-pub unop-alloc_lone-requires : goal.unop-alloc_lone-requires
-unfolding ValidExpr
-unop-alloc_lone-requires t c = (omega (arith, c.requires), tt)
-
-pub unop-returns : goal.unop-returns
-unop-returns t c = unop_lowers _ _ _ c.children_of-first.ensures _ _ c.node_flag-op.ensures c.if-op-eq0.false c.opt-e.ensures c.alloc_lone.ensures
-
--- ---- the loops, and what depends on a kind
-
 pub attr-returns-then-eq : goal.attr-returns-then-eq
 unfolding number_of_syntax
 attr-returns-then-eq t c = attr_dynamic _ _ _ refl _ (if_kind c.syntax_kind-kind.ensures code_kind.Dynamic c.eq.ensures c.if-eq.true) c.kid-place.ensures c.opt.ensures
@@ -594,6 +37,8 @@ attr-returns-then-eq-2 t c = attr_string _ _ _ refl (if_other c.syntax_kind-kind
 pub attr-returns-else-eq-2 : goal.attr-returns-else-eq-2
 unfolding number_of_syntax
 attr-returns-else-eq-2 t c = attr_ident _ _ _ refl (if_other c.syntax_kind-kind.ensures code_kind.Dynamic c.eq.ensures c.if-eq.false) (if_other c.syntax_kind-kind.ensures code_kind.Str c.eq-else-eq.ensures c.if-eq-2.false) c.attr_name.ensures
+
+-- ---- attrs
 
 pub attrs-returns-in_default : goal.attrs-returns-in_default
 attrs-returns-in_default t c = attrpath_absent _ _ c.in_default.is
@@ -611,6 +56,34 @@ attrs-loop-i-preserved t c =
 pub attrs-returns : goal.attrs-returns
 attrs-returns t c = attrpath_end _ _ c.in-Some.is (gathering_end c.loop-i.invariant c.kid_count-i-end.ensures c.loop-i-test.false)
 
+-- ---- binds
+
+pub binds-returns : goal.binds-returns
+binds-returns t c = desugar_lowers _ _ _ _ c.set_count-sets.ensures.0 c.entry_count-open.ensures.0 c.node_pointer-p.ensures c.open_set-s.ensures.0 c.entries.ensures c.finish_set.ensures c.cut.ensures
+
+-- ---- binop
+
+pub binop-returns-then-op-eq0 : goal.binop-returns-then-op-eq0
+binop-returns-then-op-eq0 t c = binop_missing _ _ _ (two_children _ _ c.kid-first.ensures c.kid-second.ensures c.node_pointer-p.ensures) _ _ c.node_flag-op.ensures c.opt-lhs.ensures c.if-op-eq0.true c.alloc_missing.ensures
+
+pub binop-alloc_lone-requires : goal.binop-alloc_lone-requires
+unfolding ValidExpr
+binop-alloc_lone-requires t c = (omega (arith, c.requires), tt)
+
+pub binop-returns : goal.binop-returns
+binop-returns t c = binop_lowers _ _ _ (two_children _ _ c.kid-first.ensures c.kid-second.ensures c.node_pointer-p.ensures) _ _ _ c.node_flag-op.ensures c.opt-lhs.ensures c.if-op-eq0.false c.opt-rhs.ensures c.alloc_lone.ensures
+
+-- ---- cond
+
+pub cond-alloc_lone-requires : goal.cond-alloc_lone-requires
+unfolding ValidExpr
+cond-alloc_lone-requires t c = (omega (arith, c.requires), tt)
+
+pub cond-returns : goal.cond-returns
+cond-returns t c = cond_lowers _ _ _ (three_children _ _ c.kid-first.ensures c.kid-second.ensures c.kid-third.ensures c.node_pointer-p.ensures) _ _ _ c.opt-cond.ensures c.opt-then_body.ensures c.opt-else_body.ensures c.alloc_lone.ensures
+
+-- ---- entries
+
 pub entries-loop-i-init : goal.entries-loop-i-init
 entries-loop-i-init t c = entries_start _ _ _ _ _ c.first_entry-i.ensures
 
@@ -624,6 +97,8 @@ entries-loop-i-preserved t c =
 pub entries-returns : goal.entries-returns
 entries-returns t c = merging_end c.loop-i.invariant c.kid_count-i-end.ensures c.loop-i-test.false
 
+-- ---- entry
+
 pub entry-returns-then-eq : goal.entry-returns-then-eq
 unfolding number_of_syntax
 entry-returns-then-eq t c = entry_inherit _ _ _ _ refl (if_kind c.syntax_kind.ensures code_kind.Inherit c.eq.ensures c.if-eq.true) c.inherit.ensures
@@ -631,6 +106,11 @@ entry-returns-then-eq t c = entry_inherit _ _ _ _ refl (if_kind c.syntax_kind.en
 pub entry-returns-else-eq : goal.entry-returns-else-eq
 unfolding number_of_syntax
 entry-returns-else-eq t c = entry_attrpath _ _ _ _ refl (if_other c.syntax_kind.ensures code_kind.Inherit c.eq.ensures c.if-eq.false) c.put.ensures
+
+-- ---- expr
+
+pub expr-returns-then-depth-eq0 : goal.expr-returns-then-depth-eq0
+expr-returns-then-depth-eq0 t c = too_deep _ _ c.if-depth-eq0.true c.alloc_missing.ensures
 
 pub expr-returns-in_default : goal.expr-returns-in_default
 expr-returns-in_default t c = none_arm _ _ c.if-depth-eq0.false c.syntax_kind.ensures c.in_default.is c.missing_node.ensures
@@ -694,6 +174,13 @@ expr-returns-in_default-kind t c =
     (o.not-Apply, o.not-IfElse, o.not-Select, o.not-With, o.not-HasAttr, o.not-Str, o.not-Path, o.not-Float, o.not-Integer, o.not-Uri, o.not-Lambda, o.not-LetIn, o.not-List, o.not-BinOp, o.not-Paren, o.not-AttrSet, o.not-UnaryOp, o.not-Ident, o.not-Assert, o.not-Root)
     c.missing_node-in_default-kind.ensures
 
+-- ---- field
+
+pub field-returns : goal.field-returns
+field-returns t c = field_lowers _ _ _ _ _ (two_places _ _ c.kid-first.ensures c.kid-second.ensures) (name_lowers _ _ _ c.lower_name-x.ensures) c.there-e.ensures c.push_item.ensures
+
+-- ---- fields
+
 pub fields-returns-in_default : goal.fields-returns-in_default
 fields-returns-in_default t c = fields_absent _ _ c.in_default.is
 
@@ -710,6 +197,34 @@ fields-loop-i-preserved t c =
 pub fields-returns : goal.fields-returns
 fields-returns t c = fields_end _ _ c.in-Some.is (gathering_end c.loop-i.invariant c.kid_count-i-end.ensures c.loop-i-test.false)
 
+-- ---- get
+
+pub get-alloc_expr-requires : goal.get-alloc_expr-requires
+unfolding ValidExpr
+get-alloc_expr-requires t c = (omega (arith, c.requires), tt)
+
+pub get-returns : goal.get-returns
+get-returns t c = select_lowers _ _ _ _ c.waiting_count-base.ensures (three_children _ _ c.kid-first.ensures c.kid-second.ensures c.kid-third.ensures c.node_pointer-p.ensures) _ c.opt-set.ensures c.attrs.ensures _ c.there-default_expr.ensures c.alloc_expr.ensures
+
+-- ---- has
+
+pub has-alloc_expr-requires : goal.has-alloc_expr-requires
+unfolding ValidExpr
+has-alloc_expr-requires t c = (omega (arith, c.requires), tt)
+
+pub has-returns : goal.has-returns
+has-returns t c = has_lowers _ _ _ _ c.waiting_count-base.ensures (two_children _ _ c.kid-first.ensures c.kid-second.ensures c.node_pointer-p.ensures) _ c.opt-set.ensures c.attrs.ensures c.alloc_expr.ensures
+
+-- ---- heir
+
+pub heir-returns-in-Static : goal.heir-returns-in-Static
+heir-returns-in-Static t c = inherit_static _ _ _ _ c.attr_kind.ensures _ _ _ _ c.node_pointer-p.ensures c.in-Static.is c.inherit_value-v.ensures c.merge_static_value.ensures
+
+pub heir-returns-in-Dynamic : goal.heir-returns-in-Dynamic
+heir-returns-in-Dynamic t c = inherit_dynamic _ _ _ _ c.attr_kind.ensures _ _ c.in-Dynamic.is c.push.ensures
+
+-- ---- inherit
+
 pub inherit-loop-i-init : goal.inherit-loop-i-init
 inherit-loop-i-init t c = inherits_start _ _ _ _ _
 
@@ -722,6 +237,54 @@ inherit-loop-i-preserved t c =
 
 pub inherit-returns : goal.inherit-returns
 inherit-returns t c = inherits_end _ _ _ _ _ c.kid-place.ensures c.src-from_set.ensures c.loop-i.invariant c.kid_count-i-end.ensures c.loop-i-test.false
+
+-- ---- join
+
+pub join-returns-then-depth-eq0 : goal.join-returns-then-depth-eq0
+join-returns-then-depth-eq0 t c = bindings_none _ _ _ c.if-depth-eq0.true
+
+pub join-returns : goal.join-returns
+join-returns t c = bindings_there _ _ _ c.if-depth-eq0.false c.entries.ensures
+
+-- ---- keyed
+
+pub keyed-returns-in-Some : goal.keyed-returns-in-Some
+keyed-returns-in-Some t c = keyed_merged _ _ _ _ _ _ _ _ c.into_set.ensures c.in-Some.is c.join.ensures
+
+pub keyed-returns-in-None : goal.keyed-returns-in-None
+keyed-returns-in-None t c = keyed_other _ _ _ _ _ _ _ _ c.into_set.ensures c.in-None.is c.node_pointer-p.ensures c.opt-e.ensures c.merge_static_value.ensures
+
+-- ---- lambda
+
+pub lambda-alloc_expr-requires : goal.lambda-alloc_expr-requires
+unfolding ValidExpr
+lambda-alloc_expr-requires t c = (omega (arith, c.requires), tt)
+
+pub lambda-returns : goal.lambda-returns
+lambda-returns t c = lambda_lowers _ _ _ _ _ _ _ c.waiting_count-base.ensures (two_children _ _ c.kid-first.ensures c.kid-second.ensures c.node_pointer-p.ensures) c.param_of-ident.ensures (name_lowers _ _ _ c.lower_name-name.ensures) c.fields.ensures c.opt-body.ensures c.alloc_expr.ensures
+
+-- ---- last
+
+pub last-returns-in-Static : goal.last-returns-in-Static
+last-returns-in-Static t c = value_static _ _ _ _ c.attr_kind.ensures _ _ c.in-Static.is c.keyed.ensures
+
+pub last-returns-in-Dynamic : goal.last-returns-in-Dynamic
+last-returns-in-Dynamic t c = value_dynamic _ _ _ _ c.attr_kind.ensures _ _ c.in-Dynamic.is c.push.ensures
+
+-- ---- let_in
+
+pub let_in-alloc_expr-requires : goal.let_in-alloc_expr-requires
+unfolding ValidExpr
+let_in-alloc_expr-requires t c = (omega (arith, c.requires.0), tt)
+
+pub let_in-returns : goal.let_in-returns
+let_in-returns t c = let_lowers _ _ _ _ _ c.requires.1 c.waiting_count-base.ensures (one_child _ _ c.kid-first.ensures c.node_pointer-p.ensures) c.binds.ensures c.opt-body.ensures c.alloc_expr.ensures
+
+-- ---- list
+
+pub list-alloc_expr-requires : goal.list-alloc_expr-requires
+unfolding ValidExpr
+list-alloc_expr-requires t c = search rules
 
 pub list-loop-i-init : goal.list-loop-i-init
 list-loop-i-init t c = list_start _ _ _
@@ -736,6 +299,42 @@ list-loop-i-preserved t c =
 pub list-returns : goal.list-returns
 list-returns t c = list_taken _ _ _ c.waiting_count-base.ensures c.node_pointer-p.ensures (gathering_end c.loop-i.invariant c.kid_count-i-end.ensures c.loop-i-test.false) c.alloc_expr.ensures
 
+-- ---- nest
+
+pub nest-returns : goal.nest-returns
+nest-returns t c = nest_lowers _ _ _ _ _ _ c.set_count-sets.ensures.0 c.entry_count-open.ensures.0 c.open_set-t.ensures.0 c.nested.ensures c.finish_nested-e.ensures c.cut.ensures
+
+-- ---- nested
+
+pub nested-step-requires : goal.nested-step-requires
+nested-step-requires t c = let f = in_first _ _ _ _ c.next_in.ensures _ _ c.in-Some.is in (omega (arith, c.decreases, f.onward, f.inside), omega (arith, c.requires))
+
+pub nested-returns-in-None : goal.nested-returns-in-None
+unfolding NextIn
+nested-returns-in-None t c = nested_last _ _ _ _ _ _ (rw c.in-None.is at c.next_in.ensures) c.last.ensures
+
+pub nested-returns-in-Some : goal.nested-returns-in-Some
+unfolding NextIn
+nested-returns-in-Some t c = nested_before _ _ _ _ _ _ (rw c.in-Some.is at c.next_in.ensures) c.step.ensures
+
+-- ---- opt
+
+pub opt-returns-in-Some : goal.opt-returns-in-Some
+opt-returns-in-Some t c = opt_node _ _ c.in-Some.is c.expr.ensures
+
+pub opt-returns-in-None : goal.opt-returns-in-None
+opt-returns-in-None t c = opt_absent _ c.in-None.is c.alloc_missing.ensures
+
+-- ---- pair
+
+pub pair-alloc_lone-requires : goal.pair-alloc_lone-requires
+pair-alloc_lone-requires t c = (omega (arith, c.requires), c.pair_form.ensures.valid)
+
+pub pair-returns : goal.pair-returns
+pair-returns t c = pair_lowers _ _ _ (two_children _ _ c.kid-first.ensures c.kid-second.ensures c.node_pointer-p.ensures) _ _ c.opt-a.ensures c.opt-b.ensures c.pair_form.ensures c.alloc_lone.ensures
+
+-- ---- part
+
 pub part-returns-then-eq : goal.part-returns-then-eq
 unfolding number_of_syntax
 part-returns-then-eq t c = part_text _ _ _ refl _ (if_kind c.syntax_kind.ensures code_kind.LiteralPart c.eq.ensures c.if-eq.true) c.node_text-t.ensures c.push_item.ensures
@@ -743,6 +342,8 @@ part-returns-then-eq t c = part_text _ _ _ refl _ (if_kind c.syntax_kind.ensures
 pub part-returns : goal.part-returns
 unfolding number_of_syntax
 part-returns t c = part_expr _ _ _ refl _ _ (if_other c.syntax_kind.ensures code_kind.LiteralPart c.eq.ensures c.if-eq.false) c.kid-place.ensures c.opt-e.ensures c.push_item-2.ensures
+
+-- ---- parts
 
 pub parts-loop-i-init : goal.parts-loop-i-init
 parts-loop-i-init t c = parts_start _ _ _
@@ -757,14 +358,94 @@ parts-loop-i-preserved t c =
 pub parts-returns : goal.parts-returns
 parts-returns t c = gathering_end c.loop-i.invariant c.kid_count-i-end.ensures c.loop-i-test.false
 
+-- ---- path
+
+pub path-alloc_expr-requires : goal.path-alloc_expr-requires
+unfolding ValidExpr
+path-alloc_expr-requires t c = (omega (arith, c.requires), tt)
+
+pub path-returns-then-has_interpolation : goal.path-returns-then-has_interpolation
+path-returns-then-has_interpolation t c = path_parts _ _ _ c.node_pointer-p.ensures _ c.has_interpolation.ensures _ c.waiting_count-base.ensures c.if-has_interpolation.true c.parts.ensures c.alloc_expr.ensures
+
+pub path-alloc_lone-requires : goal.path-alloc_lone-requires
+unfolding ValidExpr Valid
+path-alloc_lone-requires t c = (omega (arith, c.requires), tt)
+
+pub path-returns : goal.path-returns
+path-returns t c = path_literal _ _ _ c.node_pointer-p.ensures _ c.has_interpolation.ensures _ c.if-has_interpolation.false c.node_text-t.ensures c.alloc_lone.ensures
+
+-- ---- push
+
+pub push-returns : goal.push-returns
+push-returns t c = dynamic_pushed _ _ _ _ c.opt-k.ensures c.opt-v.ensures c.add_dynamic.ensures
+
+-- ---- put
+
+pub put-returns-in-None : goal.put-returns-in-None
+unfolding NextIn
+put-returns-in-None t c = attrpath_none _ _ _ _ (two_places _ _ c.kid-first.ensures c.kid-second.ensures) (rw c.in-None.is at c.next_in.ensures) c.push.ensures
+
+pub put-returns-in-Some : goal.put-returns-in-Some
+unfolding NextIn
+put-returns-in-Some t c = attrpath_there _ _ _ _ (two_places _ _ c.kid-first.ensures c.kid-second.ensures) (rw c.in-Some.is at c.next_in.ensures) c.nested.ensures
+
+-- ---- set
+
+pub set-alloc_expr-requires : goal.set-alloc_expr-requires
+unfolding ValidExpr
+set-alloc_expr-requires t c = (omega (arith, c.requires), tt)
+
+pub set-returns : goal.set-returns
+set-returns t c = set_lowers _ _ _ _ _ _ c.waiting_count-base.ensures c.node_pointer-p.ensures c.name_kind_of_set-kind.ensures c.node_flag-is_rec.ensures c.binds.ensures c.alloc_expr.ensures
+
+-- ---- src
+
 pub src-returns-in_err-place : goal.src-returns-in_err-place
 src-returns-in_err-place t c = rw c.from_residual.ensures (source_none _ _ _ c.in_err-place.was)
 
 pub src-returns : goal.src-returns
 src-returns t c = source_there _ _ _ _ _ _ c.in_ok-place.was c.kid-inner.ensures c.opt-e.ensures c.add_source.ensures
 
+-- ---- step
+
+pub step-returns-in-Static : goal.step-returns-in-Static
+step-returns-in-Static t c = step_static _ _ _ _ c.attr_kind.ensures _ c.node_pointer-p.ensures _ _ _ _ _ c.in-Static.is c.get_or_create_nested_static-t.ensures c.nested.ensures
+
+pub step-returns-in-Dynamic : goal.step-returns-in-Dynamic
+step-returns-in-Dynamic t c = step_dynamic _ _ _ _ c.attr_kind.ensures _ c.node_pointer-p.ensures _ _ _ _ _ c.in-Dynamic.is c.nest-e.ensures c.opt-made.ensures c.add_dynamic.ensures
+
+-- ---- str
+
+pub str-alloc_lone-requires : goal.str-alloc_lone-requires
+unfolding ValidExpr Valid
+str-alloc_lone-requires t c = (omega (arith, c.requires), tt)
+
+pub str-alloc_expr-requires : goal.str-alloc_expr-requires
+unfolding ValidExpr
+str-alloc_expr-requires t c = (omega (arith, c.requires), tt)
+
+pub str-returns-in-Some : goal.str-returns-in-Some
+str-returns-in-Some t c = string_literal _ _ _ c.node_pointer-p.ensures _ c.get_str_literal.ensures _ c.in-Some.is c.alloc_lone.ensures
+
+pub str-returns-in-None : goal.str-returns-in-None
+str-returns-in-None t c = string_parts _ _ _ c.node_pointer-p.ensures _ c.get_str_literal.ensures _ c.waiting_count-base.ensures c.in-None.is c.parts.ensures c.alloc_expr.ensures
+
+-- ---- there
+
 pub there-returns-in_err-n : goal.there-returns-in_err-n
 there-returns-in_err-n t c = rw c.from_residual.ensures (there_absent _ _ c.in_err-n.was)
 
 pub there-returns : goal.there-returns
 there-returns t c = there_node _ _ _ c.in_ok-n.was c.expr.ensures
+
+-- ---- unop
+
+pub unop-returns-then-op-eq0 : goal.unop-returns-then-op-eq0
+unop-returns-then-op-eq0 t c = unop_missing _ _ _ c.node_flag-op.ensures c.if-op-eq0.true c.alloc_missing.ensures
+
+pub unop-alloc_lone-requires : goal.unop-alloc_lone-requires
+unfolding ValidExpr
+unop-alloc_lone-requires t c = (omega (arith, c.requires), tt)
+
+pub unop-returns : goal.unop-returns
+unop-returns t c = unop_lowers _ _ _ (one_child _ _ c.kid-first.ensures c.node_pointer-p.ensures) _ _ c.node_flag-op.ensures c.if-op-eq0.false c.opt-e.ensures c.alloc_lone.ensures

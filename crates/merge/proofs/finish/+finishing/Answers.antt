@@ -14,15 +14,9 @@ use Rattle.merge.proofs.finish.+finishing.Goals as goal
 pub finish-loop-e-init : goal.finish-loop-e-init
 finish-loop-e-init t c = going_none _ _ _ _
 
-pub finish-entry_of-requires : goal.finish-entry_of-requires
-finish-entry_of-requires t c = omega (arith, c.requires, c.loop-e.invariant.wrote.size)
-
 pub finish-returns : goal.finish-returns
 unfolding NextInRun
 finish-returns t c = going_done c.loop-e.invariant (rw c.in_default.is at c.entry_of.ensures) c.first_of-j.ensures.0
-
-pub finish-finish_entry-requires : goal.finish-finish_entry-requires
-finish-finish_entry-requires t c = (omega (arith, c.decreases), omega (arith, c.requires, c.loop-e.invariant.wrote.size))
 
 pub finish-overflow_add-j : goal.finish-overflow_add-j
 unfolding NextInRun
@@ -54,9 +48,6 @@ finish_entry-returns-in-Dynamic t c = rw c.in-Dynamic.is (lone_listed _ c.push_i
 
 pub finish_expr-returns-then-bound-eq0 : goal.finish_expr-returns-then-bound-eq0
 finish_expr-returns-then-bound-eq0 t c = no_bound _ _ _ c.if-bound-eq0.true c.alloc_missing.ensures
-
-pub finish_expr-overflow_sub-bound : goal.finish_expr-overflow_sub-bound
-finish_expr-overflow_sub-bound t c = omega arith
 
 pub finish_expr-alloc_expr-requires : goal.finish_expr-alloc_expr-requires
 unfolding ValidExpr
