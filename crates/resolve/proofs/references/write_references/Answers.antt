@@ -1,5 +1,5 @@
 -- `resolve::references::write_references` meets its contract.
-use Rattle.resolve.proofs.ReferenceLaws.{copying_none, copying_more, copying_lost, copying_done}
+use Rattle.resolve.proofs.ReferenceLaws.{copying_more, copying_lost, copying_done}
 use native.Mathlib.Omega.{arith}
 use Rattle.resolve.proofs.references.write_references.Goals as goal
 
