@@ -16,7 +16,7 @@ ghost use Rattle.layout.specs.Rows.{cap, raised, set_all};
 ghost use Rattle.layout.specs.Keeps.{scopes_in};
 ghost use Rattle.kept.specs.Walks.{names_entered, with_of, scope_word, Unplaced, Walked, Emptied, Waits, try_open, try_place, try_root, waiting_names};
 
-use crate::limits::{in_use, less, raised_expr, raised_scope};
+use crate::limits::in_use;
 use layout::tables::{
     ENTERED, EXPR_COUNT, EXPR_LIMIT, NAME_LIMIT, SCOPE_COUNT, SCOPE_LIMIT, SCOPE_ROW, SCOPES,
     USE_ROW, USES,
@@ -48,18 +48,19 @@ fn scope_word(store: &[u8], s: ScopeId, k: usize) -> u32
     }
 }
 
+// Parent and With stand one too high in the row, so that 0 is none.
 pub fn scope_parent(store: &[u8], s: ScopeId) -> Option<ScopeId>
     requires { Long store.now }
     ensures { scope_of result ≡ (scope_at (scopes_in store.now).scopes s.0).parent }
 {
-    raised_scope(scope_word(store, s, 4))
+    scope_word(store, s, 4).checked_sub(1).map(ScopeId)
 }
 
 pub fn scope_with(store: &[u8], s: ScopeId) -> Option<ExprId>
     requires { Long store.now }
     ensures { expr_of result ≡ with_of (scope_at (scopes_in store.now).scopes s.0).kind }
 {
-    raised_expr(scope_word(store, s, 8))
+    scope_word(store, s, 8).checked_sub(1).map(ExprId)
 }
 
 // How many names are entered in a scope: none in that of a With.
@@ -76,7 +77,7 @@ pub fn entered_count(store: &[u8], s: ScopeId) -> u32
     }
     let from = in_use(store, SCOPES + SCOPE_ROW * wide(i), NAME_LIMIT);
     let to = in_use(store, SCOPES + SCOPE_ROW * wide(i) + SCOPE_ROW, NAME_LIMIT);
-    less(to, from)
+    to.saturating_sub(from)
 }
 
 // The i-th of them, from 0 on.
@@ -99,7 +100,9 @@ pub fn scope_of(store: &[u8], e: ExprId) -> Option<ScopeId>
 {
     let i = e.0;
     if i < in_use(store, EXPR_COUNT, EXPR_LIMIT) {
-        raised_scope(get32(store, USES + USE_ROW * wide(i)))
+        get32(store, USES + USE_ROW * wide(i))
+            .checked_sub(1)
+            .map(ScopeId)
     } else {
         None
     }
