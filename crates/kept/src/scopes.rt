@@ -4,11 +4,11 @@
 // A scope's names lie one after the other, from the first that its row gives to the next row's first.
 // So the row after the last one says where the names of the next scope will begin, and those that wait
 // for it are written there.
-ghost use Rattle.std.specs.Prelude.{◌≡◌, [], ◌∷◌, ℕ, ◌+◌, ◌*◌, ◌-◌, ◌≤◌, ◌<◌, length};
+ghost use Rattle.std.specs.Prelude.{◌≡◌, [], ◌∷◌, ℕ, ◌+◌, ◌*◌, ◌-◌, ◌≤◌, ◌<◌, length, MatchOption};
 ghost use Rattle.std.proofs.Math.Option.{none};
 ghost use Rattle.std.proofs.Math.ListN.{get_elem?};
 ghost use Rattle.words.specs.Words.{word, set_word};
-ghost use Rattle.spec.specs.Scopes.{definitions, with_expr};
+ghost use Rattle.spec.specs.Scopes.{ScopeKind, definitions, with_expr};
 ghost use Rattle.spec.specs.Answer.{scope_at, scope_of_expr};
 ghost use Rattle.module.specs.Ids.{scope_of, expr_of, name_of};
 ghost use Rattle.layout.specs.Layout.{expr_limit, scope_limit, scope_row, scope_count, scopes_at, Long};
@@ -189,24 +189,32 @@ pub fn enter_name(store: &mut [u8], i: u32, x: NameId)
     put32(store, ENTERED + 4 * at, x.0);
 }
 
+// How many scopes there are, where one more can be opened inside the scope parent.
+fn room_inside(store: &[u8], parent: ScopeId) -> Option<Counter>
+    requires { Long store.now }
+    ensures { MatchOption result ((k : ScopeKind) → Walked (try_open k parent.0) store.now scope_limit store.now) (λ count. (count.used ≡ cap (word store.now scope_count) scope_limit) × ((count.used < scope_limit) × (parent.0 < scope_limit))) }
+{
+    let count = counter(store, SCOPE_COUNT);
+    if count.has_room(SCOPE_LIMIT) && parent.0 < SCOPE_LIMIT {
+        Some(count)
+    } else {
+        None
+    }
+}
+
 // A scope inside another, with the first n of the names that wait.
 pub fn open_scope(store: &mut [u8], parent: ScopeId, n: u32) -> ScopeId
     requires { Long store.old }
     ensures { Walked (try_open (definitions (waiting_names store.old n)) parent.0) store.old result.0 store.new }
 {
-    let count = counter(store, SCOPE_COUNT);
-    if !count.has_room(SCOPE_LIMIT) {
+    let Some(count) = room_inside(store, parent) else {
         return ScopeId(SCOPE_LIMIT);
-    }
-    let outer = parent.0;
-    if SCOPE_LIMIT <= outer {
-        return ScopeId(SCOPE_LIMIT);
-    }
+    };
     let first = get32(store, SCOPES + SCOPE_ROW * wide(count.used));
     if ROOM < wide(first) + wide(n) {
         return ScopeId(SCOPE_LIMIT);
     }
-    put_scope(store, count, outer + 1, 0, first + n);
+    put_scope(store, count, parent.0 + 1, 0, first + n);
     ScopeId(count.used)
 }
 
@@ -215,19 +223,14 @@ pub fn open_with(store: &mut [u8], parent: ScopeId, e: ExprId) -> ScopeId
     requires { Long store.old }
     ensures { Walked (try_open (with_expr e.0) parent.0) store.old result.0 store.new }
 {
-    let count = counter(store, SCOPE_COUNT);
-    if !count.has_room(SCOPE_LIMIT) {
+    let Some(count) = room_inside(store, parent) else {
         return ScopeId(SCOPE_LIMIT);
-    }
-    let outer = parent.0;
-    if SCOPE_LIMIT <= outer {
-        return ScopeId(SCOPE_LIMIT);
-    }
+    };
     let source = e.0;
     if EXPR_LIMIT <= source {
         return ScopeId(SCOPE_LIMIT);
     }
     let first = get32(store, SCOPES + SCOPE_ROW * wide(count.used));
-    put_scope(store, count, outer + 1, source + 1, first);
+    put_scope(store, count, parent.0 + 1, source + 1, first);
     ScopeId(count.used)
 }
