@@ -84,7 +84,8 @@ fn dynamic(item: Item) -> (Option<ExprId>, Option<ExprId>)
 }
 
 // What the item with the number i of the expression e hands on in a pass: nothing, one expression, or a key and its
-// value. Each pass reads the item by itself, so that in the compiled code its test is one of the item's tag.
+// value. Each pass reads the item by itself, so that in the compiled code its test is one of the item's tag. One match
+// over pass and item together was slower: 596 million instructions for 2,000 walks over 2,095 expressions, and not 419.
 pub fn pick_item(store: &[u8], e: ExprId, i: u32, pass: Pass) -> (Option<ExprId>, Option<ExprId>)
     requires { Long store.now }
     ensures { picks_of result ≡ picked pass (item_at_expr store.now e.0 i ∷ []) }

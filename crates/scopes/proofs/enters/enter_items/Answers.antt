@@ -5,7 +5,7 @@ use Rattle.layout.specs.Exprs.{Item}
 use Rattle.layout.specs.States.{module_in}
 use Rattle.layout.specs.Texts.{text_in}
 use Rattle.scopes.specs.Entering.{entered}
-use Rattle.scopes.proofs.EnterLaws.{enters_start, enters_bound, enters_turn, enters_end}
+use Rattle.scopes.proofs.EnterLaws.{enters_start, enters_bound, enters_turn}
 use native.Mathlib.Omega.{arith}
 use Rattle.scopes.proofs.enters.enter_items.Goals as goal
 

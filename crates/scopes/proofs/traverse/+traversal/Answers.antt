@@ -9,7 +9,6 @@ use Rattle.scopes.specs.Picking.{picked, picks_of}
 use mathlib.Core.Logic.{inl, inr}
 use Rattle.module.specs.Ids.{expr_of}
 use Rattle.spec.specs.Scopes.{one_or_none, field_defaults, pat_fields}
-use native.Mathlib.Omega.{arith}
 use Rattle.scopes.proofs.traverse.+traversal.Goals as goal
 
 -- ---- child
