@@ -11,7 +11,7 @@ ghost use Rattle.layout.specs.Layout.{Long};
 ghost use Rattle.layout.specs.Keeps.{kept_in};
 ghost use Rattle.kept.specs.References.{Unlisted, Refers, Ended};
 
-use crate::limits::{in_use, less};
+use crate::limits::in_use;
 use layout::tables::{FIRSTS, NAME_COUNT, NAME_LIMIT, REFERENCE_LIMIT, REFERENCES};
 use layout::wide;
 use module::{ExprId, NameId};
@@ -32,7 +32,7 @@ pub fn reference_count(store: &[u8], x: NameId) -> u32
     }
     let from = in_use(store, FIRSTS + 4 * wide(i), REFERENCE_LIMIT);
     let to = in_use(store, FIRSTS + 4 * wide(i) + 4, REFERENCE_LIMIT);
-    less(to, from)
+    to.saturating_sub(from)
 }
 
 // The i-th of them, from 0 on.

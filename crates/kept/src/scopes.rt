@@ -4,11 +4,11 @@
 // A scope's names lie one after the other, from the first that its row gives to the next row's first.
 // So the row after the last one says where the names of the next scope will begin, and those that wait
 // for it are written there.
-ghost use Rattle.std.specs.Prelude.{◌≡◌, [], ◌∷◌, ℕ, ◌+◌, ◌*◌, ◌-◌, ◌≤◌, ◌<◌, length};
+ghost use Rattle.std.specs.Prelude.{◌≡◌, [], ◌∷◌, ℕ, ◌+◌, ◌*◌, ◌-◌, ◌≤◌, ◌<◌, length, MatchOption};
 ghost use Rattle.std.proofs.Math.Option.{none};
 ghost use Rattle.std.proofs.Math.ListN.{get_elem?};
 ghost use Rattle.words.specs.Words.{word, set_word};
-ghost use Rattle.spec.specs.Scopes.{definitions, with_expr};
+ghost use Rattle.spec.specs.Scopes.{ScopeKind, definitions, with_expr};
 ghost use Rattle.spec.specs.Answer.{scope_at, scope_of_expr};
 ghost use Rattle.module.specs.Ids.{scope_of, expr_of, name_of};
 ghost use Rattle.layout.specs.Layout.{expr_limit, scope_limit, scope_row, scope_count, scopes_at, Long};
@@ -16,7 +16,7 @@ ghost use Rattle.layout.specs.Rows.{cap, raised, set_all};
 ghost use Rattle.layout.specs.Keeps.{scopes_in};
 ghost use Rattle.kept.specs.Walks.{names_entered, with_of, scope_word, Unplaced, Walked, Emptied, Waits, try_open, try_place, try_root, waiting_names};
 
-use crate::limits::{in_use, less, raised_expr, raised_scope};
+use crate::limits::in_use;
 use layout::tables::{
     ENTERED, EXPR_COUNT, EXPR_LIMIT, NAME_LIMIT, SCOPE_COUNT, SCOPE_LIMIT, SCOPE_ROW, SCOPES,
     USE_ROW, USES,
@@ -48,18 +48,19 @@ fn scope_word(store: &[u8], s: ScopeId, k: usize) -> u32
     }
 }
 
+// Parent and With stand one too high in the row, so that 0 is none.
 pub fn scope_parent(store: &[u8], s: ScopeId) -> Option<ScopeId>
     requires { Long store.now }
     ensures { scope_of result ≡ (scope_at (scopes_in store.now).scopes s.0).parent }
 {
-    raised_scope(scope_word(store, s, 4))
+    scope_word(store, s, 4).checked_sub(1).map(ScopeId)
 }
 
 pub fn scope_with(store: &[u8], s: ScopeId) -> Option<ExprId>
     requires { Long store.now }
     ensures { expr_of result ≡ with_of (scope_at (scopes_in store.now).scopes s.0).kind }
 {
-    raised_expr(scope_word(store, s, 8))
+    scope_word(store, s, 8).checked_sub(1).map(ExprId)
 }
 
 // How many names are entered in a scope: none in that of a With.
@@ -76,7 +77,7 @@ pub fn entered_count(store: &[u8], s: ScopeId) -> u32
     }
     let from = in_use(store, SCOPES + SCOPE_ROW * wide(i), NAME_LIMIT);
     let to = in_use(store, SCOPES + SCOPE_ROW * wide(i) + SCOPE_ROW, NAME_LIMIT);
-    less(to, from)
+    to.saturating_sub(from)
 }
 
 // The i-th of them, from 0 on.
@@ -99,7 +100,9 @@ pub fn scope_of(store: &[u8], e: ExprId) -> Option<ScopeId>
 {
     let i = e.0;
     if i < in_use(store, EXPR_COUNT, EXPR_LIMIT) {
-        raised_scope(get32(store, USES + USE_ROW * wide(i)))
+        get32(store, USES + USE_ROW * wide(i))
+            .checked_sub(1)
+            .map(ScopeId)
     } else {
         None
     }
@@ -184,24 +187,32 @@ pub fn enter_name(store: &mut [u8], i: u32, x: NameId)
     put32(store, ENTERED + 4 * at, x.0);
 }
 
+// How many scopes there are, where one more can be opened inside the scope parent.
+fn room_inside(store: &[u8], parent: ScopeId) -> Option<Counter>
+    requires { Long store.now }
+    ensures { MatchOption result ((k : ScopeKind) → Walked (try_open k parent.0) store.now scope_limit store.now) (λ count. (count.used ≡ cap (word store.now scope_count) scope_limit) × ((count.used < scope_limit) × (parent.0 < scope_limit))) }
+{
+    let count = counter(store, SCOPE_COUNT);
+    if count.has_room(SCOPE_LIMIT) && parent.0 < SCOPE_LIMIT {
+        Some(count)
+    } else {
+        None
+    }
+}
+
 // A scope inside another, with the first n of the names that wait.
 pub fn open_scope(store: &mut [u8], parent: ScopeId, n: u32) -> ScopeId
     requires { Long store.old }
     ensures { Walked (try_open (definitions (waiting_names store.old n)) parent.0) store.old result.0 store.new }
 {
-    let count = counter(store, SCOPE_COUNT);
-    if !count.has_room(SCOPE_LIMIT) {
+    let Some(count) = room_inside(store, parent) else {
         return ScopeId(SCOPE_LIMIT);
-    }
-    let outer = parent.0;
-    if SCOPE_LIMIT <= outer {
-        return ScopeId(SCOPE_LIMIT);
-    }
+    };
     let first = get32(store, SCOPES + SCOPE_ROW * wide(count.used));
     if ROOM < wide(first) + wide(n) {
         return ScopeId(SCOPE_LIMIT);
     }
-    put_scope(store, count, outer + 1, 0, first + n);
+    put_scope(store, count, parent.0 + 1, 0, first + n);
     ScopeId(count.used)
 }
 
@@ -210,19 +221,14 @@ pub fn open_with(store: &mut [u8], parent: ScopeId, e: ExprId) -> ScopeId
     requires { Long store.old }
     ensures { Walked (try_open (with_expr e.0) parent.0) store.old result.0 store.new }
 {
-    let count = counter(store, SCOPE_COUNT);
-    if !count.has_room(SCOPE_LIMIT) {
+    let Some(count) = room_inside(store, parent) else {
         return ScopeId(SCOPE_LIMIT);
-    }
-    let outer = parent.0;
-    if SCOPE_LIMIT <= outer {
-        return ScopeId(SCOPE_LIMIT);
-    }
+    };
     let source = e.0;
     if EXPR_LIMIT <= source {
         return ScopeId(SCOPE_LIMIT);
     }
     let first = get32(store, SCOPES + SCOPE_ROW * wide(count.used));
-    put_scope(store, count, outer + 1, source + 1, first);
+    put_scope(store, count, parent.0 + 1, source + 1, first);
     ScopeId(count.used)
 }

@@ -15,21 +15,7 @@ use Rattle.spec.specs.Answer.{last_with, defined_in}
 use Rattle.kept.specs.Walks.{names_entered}
 use Rattle.resolve.specs.Definitions.{only_with}
 
--- ---- one name
 module _ (text_of : ℕ → Text) (t : Text) where
-  pub none_there : (o : Option ℕ) → none ≡ o → none ≡ only_with text_of t o
-  unfolding only_with
-  none_there o e = rw (← e)
-
-  pub has_text_lem : (o : Option ℕ) (x : ℕ) (b : Bool) → some x ≡ o → b ≡ equalb (text_of x) t → b ≡ true → some x ≡ only_with text_of t o
-  unfolding only_with
-  has_text_lem o x b e g h = let y : equalb (text_of x) t ≡ true = sym g ∙ h in rw (← e, y)
-
-  pub other_text : (o : Option ℕ) (x : ℕ) (b : Bool) → some x ≡ o → b ≡ equalb (text_of x) t → b ≡ false → none ≡ only_with text_of t o
-  unfolding only_with
-  other_text o x b e g h = let y : equalb (text_of x) t ≡ false = sym g ∙ h in rw (← e, y)
-
-  -- ---- all of them
   last_more : (found : Option ℕ) (ys : List ℕ) (x : ℕ) → last_with text_of t found (ys ++ (x ∷ [])) ≡ (if equalb (text_of x) t then some x else last_with text_of t found ys)
   unfolding last_with
   last_more found [] x = refl

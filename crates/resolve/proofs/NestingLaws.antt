@@ -1,13 +1,10 @@
 -- A scope sought along the chain of another. Assumes nothing.
-use mathlib.Core.Path.{◌≡◌, refl, ap, ◌∙◌}
-use mathlib.Core.Bool.{Bool, false, ◌||◌}
+use mathlib.Core.Path.{◌≡◌, refl, ap}
+use mathlib.Core.Bool.{Bool, ◌||◌}
 use mathlib.Core.List.{List, [], ◌∷◌}
-use mathlib.Core.Option.{Option, none, some}
 use Prim.Native.Nat.{ℕ}
 use lib.Dec.{eqb}
-use Rattle.spec.specs.Scopes.{Scopes, is_in}
-use Rattle.spec.specs.Answer.{chain}
-use Rattle.spec.specs.Moved.{within}
+use Rattle.spec.specs.Scopes.{is_in}
 use Rattle.std.specs.List.{list_any}
 
 -- ---- along the chain

@@ -1,8 +1,8 @@
 -- The search for the innermost definition, one scope after the other. Assumes nothing.
-use mathlib.Core.Path.{◌≡◌, refl, sym, ap, ◌∙◌}
+use mathlib.Core.Path.{◌≡◌, refl}
 use mathlib.Core.Bool.{true}
 use mathlib.Core.List.{List, ◌∷◌}
-use mathlib.Core.Option.{Option, none, some}
+use mathlib.Core.Option.{none, some}
 use Prim.Native.Nat.{ℕ}
 use Rattle.spec.specs.Basics.{Text}
 use Rattle.spec.specs.Scopes.{ScopeKind, definitions, with_expr, Scope}

@@ -1,16 +1,15 @@
 -- Writing the Withs of a chain into a buffer. Assumes nothing.
 use mathlib.Core.Path.{◌≡◌, refl, sym, ap, ◌∙◌}
-use mathlib.Core.List.{List, [], ◌∷◌, ◌++◌}
+use mathlib.Core.List.{List, [], ◌∷◌}
 use mathlib.Core.Option.{none, some}
-use Prim.Native.Nat.{ℕ, suc, ◌+◌, ◌-◌, ◌*◌, ◌≤◌, ◌<◌}
+use Prim.Native.Nat.{ℕ, ◌+◌, ◌*◌, ◌≤◌, ◌<◌}
 use native.Mathlib.Omega.{arith}
-use lib.ListN.{length, length-append}
+use lib.ListN.{length}
 use Rattle.words.specs.Words.{set_word}
 use Rattle.words.proofs.WordLaws.{length_set_word}
-use Rattle.spec.specs.Scopes.{ScopeKind, Scope, Scopes}
-use Rattle.spec.specs.Answer.{scope_at, chain_to, chain, if_with, withs_of, scope_of_expr}
+use Rattle.spec.specs.Scopes.{Scope, Scopes}
+use Rattle.spec.specs.Answer.{scope_at, chain, withs_of, scope_of_expr}
 use Rattle.layout.specs.Rows.{set_all}
-use Rattle.layout.proofs.WriteLaws.{length_all}
 use Rattle.kept.specs.Walks.{with_of}
 use Rattle.kept.specs.Answers.{withs_in, withs_at}
 use Rattle.resolve.specs.Withs.{Lists}

@@ -20,9 +20,9 @@ impl<'a> ScopeChain<'a> {
     ghost use Rattle.layout.specs.Keeps.{scopes_in};
     ghost use Rattle.resolve.specs.Chain.{scopes_left};
 
-    #[tactic(auto, unfolding(crate::specs::Chain::scopes_left, spec::specs::Answer::chain, module::specs::Ids::scope_of))]
     // From s on. A parent has a lower number in a sound store: so no more are followed than the number of s, and every
     // walk ends, also where parents go round.
+    #[tactic(auto, unfolding(crate::specs::Chain::scopes_left, spec::specs::Answer::chain, module::specs::Ids::scope_of))]
     pub fn new(store: &'a [u8], s: ScopeId) -> ScopeChain<'a>
         requires { Long store.now }
         ensures { scopes_left result ≡ chain (scopes_in store.now).scopes s.0 }

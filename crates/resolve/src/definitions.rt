@@ -37,6 +37,7 @@ fn name_is(store: &[u8], y: NameId, sought: &[u8], x: NameId, text: &[u8]) -> bo
 }
 
 // The i-th name entered in a scope, where it has the sought text.
+#[tactic(auto, unfolding(crate::specs::Definitions::only_with, module::specs::Ids::name_of))]
 fn entered_as(
     store: &[u8],
     s: ScopeId,
@@ -48,16 +49,7 @@ fn entered_as(
     requires { Long store.now }
     ensures { name_of result ≡ only_with (text_of_name (set_name x.0 text.now (module_in store.now))) sought.now (get_elem? (names_entered (scope_at (scopes_in store.now).scopes s.0).kind) i) }
 {
-    match entered_at(store, s, i) {
-        Some(y) => {
-            if name_is(store, y, sought, x, text) {
-                Some(y)
-            } else {
-                None
-            }
-        }
-        None => None,
-    }
+    entered_at(store, s, i).filter(|y| name_is(store, *y, sought, x, text))
 }
 
 pub fn defined_in(store: &[u8], s: ScopeId, sought: &[u8], x: NameId, text: &[u8]) -> Option<NameId>

@@ -18,8 +18,8 @@ fn surrounds(store: &[u8], held: ScopeId, s: ScopeId) -> bool
     ScopeChain::new(store, s).any(|i| held.0 == i.0)
 }
 
-#[tactic(auto, unfolding(spec::specs::Moved::within, module::specs::Ids::scope_of))]
 // What has no scope is within none, and nothing is within no scope.
+#[tactic(auto, unfolding(spec::specs::Moved::within, module::specs::Ids::scope_of))]
 pub fn within(store: &[u8], held: Option<ScopeId>, s: Option<ScopeId>) -> bool
     requires { Long store.now }
     ensures { result ≡ moved.within (scopes_in store.now) (scope_of held) (scope_of s) }

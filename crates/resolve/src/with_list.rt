@@ -27,7 +27,8 @@ fn write_withs(store: &[u8], s: ScopeId, buffer: &mut [u8], n: usize)
     }
 }
 
-// Tells how many there are, and lists them where the buffer has room for all.
+// Tells how many there are, and lists them where the buffer has room for all. It walks the chain twice, for one answer
+// alone; that is little beside the check of the whole store that every call begins with.
 pub fn list_withs(store: &[u8], e: ExprId, buffer: &mut [u8]) -> u32
     requires { Long store.now }
     ensures { Lists (withs_at (scopes_in store.now) e.0) buffer.old result buffer.new }

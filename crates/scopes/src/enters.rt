@@ -18,7 +18,8 @@ use kept::{enter_name, open_scope};
 use module::{ExprId, Item, NameId, NameKind, Pattern, ScopeId};
 use rows::{item_count, name_kind_of, read_item};
 
-// Which names of its items an expression enters.
+// Which names of its items an expression enters. Closures in its place would be no plainer: each would take the store
+// beside the item, and its call would have to state of that one list what `entered` states here of both.
 #[derive(Clone, Copy)]
 pub enum Names {
     // Of the fields of a pattern.

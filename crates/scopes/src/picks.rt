@@ -4,12 +4,16 @@
 
 ghost use Rattle.std.specs.Prelude.{◌≡◌, [], ◌∷◌, ℕ};
 ghost use Rattle.spec.specs.Basics.{Text};
-ghost use Rattle.spec.specs.Scopes.{one_or_none, if_inherited, if_plain};
-ghost use Rattle.module.specs.Ids.{expr_of, binding_of};
+ghost use Rattle.spec.specs.Scopes.{one_or_none};
+ghost use Rattle.module.specs.Ids.{expr_of};
+ghost use Rattle.layout.specs.Layout.{Long};
+ghost use Rattle.rows.specs.Readers.{item_at_expr};
+ghost use Rattle.scopes.specs.declared.picks.Pass.TheVariants as pass_of;
 ghost use Rattle.rows.specs.Decoded.{item_with};
 ghost use Rattle.scopes.specs.Picking.{picks_of, picked};
 
 use module::{BindingValue, ExprId, Item};
+use rows::read_item;
 
 // A pass is no closure that the walk is given: the walkers call each other, and no proof can be stated of functions in
 // such a cycle that differ in their type parameters.
@@ -27,36 +31,70 @@ pub enum Pass {
     Dynamics,
 }
 
-// The value of `inherit x;`.
-fn inherited(v: BindingValue) -> Option<ExprId>
-    ensures { one_or_none (expr_of result) ≡ if_inherited (binding_of v) }
+fn child(item: Item) -> Option<ExprId>
+    ensures { (texts : ℕ → Text) → one_or_none (expr_of result) ≡ picked pass_of.Children (item_with texts item ∷ []) }
 {
-    match v {
-        BindingValue::Inherit(c) => Some(c),
+    match item {
+        Item::Child(c) => Some(c),
         _ => None,
     }
 }
 
-// The value of `x = ..;`. The Select of an inherit with a source is not walked.
-fn plain(v: BindingValue) -> Option<ExprId>
-    ensures { one_or_none (expr_of result) ≡ if_plain (binding_of v) }
+fn default(item: Item) -> Option<ExprId>
+    ensures { (texts : ℕ → Text) → one_or_none (expr_of result) ≡ picked pass_of.Defaults (item_with texts item ∷ []) }
 {
-    match v {
-        BindingValue::Expr(c) => Some(c),
+    match item {
+        Item::Field(_, d) => d,
         _ => None,
     }
 }
 
-// What an item hands on in a pass: nothing, one expression, or a key and its value.
-pub fn pick(item: Item, pass: Pass) -> (Option<ExprId>, Option<ExprId>)
-    ensures { (texts : ℕ → Text) → picks_of result ≡ picked pass (item_with texts item ∷ []) }
+fn inherited(item: Item) -> Option<ExprId>
+    ensures { (texts : ℕ → Text) → one_or_none (expr_of result) ≡ picked pass_of.Inherited (item_with texts item ∷ []) }
 {
-    match (pass, item) {
-        (Pass::Children, Item::Child(c)) => (Some(c), None),
-        (Pass::Defaults, Item::Field(_, d)) => (d, None),
-        (Pass::Inherited, Item::Static(_, v)) => (inherited(v), None),
-        (Pass::Values, Item::Static(_, v)) => (plain(v), None),
-        (Pass::Dynamics, Item::Dynamic(k, v)) => (Some(k), Some(v)),
+    match item {
+        Item::Static(_, v) => match v {
+            BindingValue::Inherit(c) => Some(c),
+            _ => None,
+        },
+        _ => None,
+    }
+}
+
+// The Select of an inherit with a source is not walked.
+fn value(item: Item) -> Option<ExprId>
+    ensures { (texts : ℕ → Text) → one_or_none (expr_of result) ≡ picked pass_of.Values (item_with texts item ∷ []) }
+{
+    match item {
+        Item::Static(_, v) => match v {
+            BindingValue::Expr(c) => Some(c),
+            _ => None,
+        },
+        _ => None,
+    }
+}
+
+fn dynamic(item: Item) -> (Option<ExprId>, Option<ExprId>)
+    ensures { (texts : ℕ → Text) → picks_of result ≡ picked pass_of.Dynamics (item_with texts item ∷ []) }
+{
+    match item {
+        Item::Dynamic(k, v) => (Some(k), Some(v)),
         _ => (None, None),
+    }
+}
+
+// What the item with the number i of the expression e hands on in a pass: nothing, one expression, or a key and its
+// value. Each pass reads the item by itself, so that in the compiled code its test is one of the item's tag. One match
+// over pass and item together was slower: 596 million instructions for 2,000 walks over 2,095 expressions, and not 419.
+pub fn pick_item(store: &[u8], e: ExprId, i: u32, pass: Pass) -> (Option<ExprId>, Option<ExprId>)
+    requires { Long store.now }
+    ensures { picks_of result ≡ picked pass (item_at_expr store.now e.0 i ∷ []) }
+{
+    match pass {
+        Pass::Children => (child(read_item(store, e, i)), None),
+        Pass::Defaults => (default(read_item(store, e, i)), None),
+        Pass::Inherited => (inherited(read_item(store, e, i)), None),
+        Pass::Values => (value(read_item(store, e, i)), None),
+        Pass::Dynamics => dynamic(read_item(store, e, i)),
     }
 }

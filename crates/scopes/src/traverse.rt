@@ -13,10 +13,10 @@ ghost use Rattle.scopes.specs.Picking.{picked};
 ghost use Rattle.scopes.specs.Walking.{below, Walks, Follows};
 
 use crate::enters::{open_for_bindings, open_for_lambda};
-use crate::picks::{Pass, pick};
+use crate::picks::{Pass, pick_item};
 use kept::{open_with, place_expr};
 use module::{Expr, ExprId, NameId, Pattern, ScopeId};
-use rows::{item_count, read_expr, read_item};
+use rows::{item_count, read_expr};
 
 // The expression e stands in the scope, and so do its children, but for those in a scope that it opens.
 // A With opens one for its body alone; an Assert's body is walked before its condition.
@@ -119,7 +119,7 @@ fn walk_items(store: &mut [u8], e: ExprId, pass: Pass, scope: ScopeId)
     ensures { Follows e.0 scope.0 (picked pass (items_at_expr store.old e.0)) store.old store.new }
 {
     for i in 0..item_count(store, e) {
-        let (first, second) = pick(read_item(store, e, i), pass);
+        let (first, second) = pick_item(store, e, i, pass);
         child_if_any(store, e, first, scope);
         child_if_any(store, e, second, scope);
     }

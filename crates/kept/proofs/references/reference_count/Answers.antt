@@ -16,4 +16,4 @@ pub in_use-to-requires : goal.in_use-to-requires
 in_use-to-requires c = omega (arith, c.wide-2.ensures, cap_lim (word c.args.store.now name_count) name_limit)
 
 pub returns : goal.returns
-returns c = some_listed c.args.store.now c.args.x.0 _ _ _ _ c.in_use.ensures c.if-in_use-i.false (rw c.wide.ensures at c.in_use-from.ensures) (rw c.wide-2.ensures at c.in_use-to.ensures) c.less.ensures
+returns c = some_listed c.args.store.now c.args.x.0 _ _ _ _ c.in_use.ensures c.if-in_use-i.false (rw c.wide.ensures at c.in_use-from.ensures) (rw c.wide-2.ensures at c.in_use-to.ensures) c.saturating_sub.ensures

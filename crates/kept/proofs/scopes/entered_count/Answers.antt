@@ -23,4 +23,4 @@ pub in_use-to-requires : goal.in_use-to-requires
 in_use-to-requires c = omega (arith, c.wide-3.ensures, cap_lim (word c.args.store.now scope_count) scope_limit)
 
 pub returns : goal.returns
-returns c = count_own _ _ _ _ _ (below_cap _ _ _ c.in_use.ensures c.if-in_use-i.false) (sym (rw c.wide.ensures at c.get32.ensures) ∙ c.if-get32-ne0.false) (rw c.wide-2.ensures at c.in_use-from.ensures) (rw c.wide-3.ensures at c.in_use-to.ensures) c.less.ensures
+returns c = count_own _ _ _ _ _ (below_cap _ _ _ c.in_use.ensures c.if-in_use-i.false) (sym (rw c.wide.ensures at c.get32.ensures) ∙ c.if-get32-ne0.false) (rw c.wide-2.ensures at c.in_use-from.ensures) (rw c.wide-3.ensures at c.in_use-to.ensures) c.saturating_sub.ensures

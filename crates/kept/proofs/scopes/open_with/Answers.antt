@@ -1,26 +1,23 @@
 -- `kept::scopes::open_with` meets its contract.
-use Rattle.kept.proofs.ScopeLaws.{room_count, full_count, scopes_full, outer_unfit, with_unfit, with_more}
-use Rattle.layout.specs.Layout.{scope_limit}
-use Rattle.module.proofs.CounterLaws.{room_left}
-use borrow.Author.Tests.{not-true, not-false}
-use mathlib.Core.Path.{refl}
+use Rattle.kept.proofs.ScopeLaws.{with_unfit, with_more}
 use native.Mathlib.Omega.{arith}
 use Rattle.kept.proofs.scopes.open_with.Goals as goal
 
-pub returns-then-not-has_room : goal.returns-then-not-has_room
-returns-then-not-has_room c = scopes_full _ _ refl _ _ (full_count _ _ _ _ c.counter-count.ensures c.has_room.ensures (not-true _ c.if-not-has_room.true-raw))
-
-pub returns-then-outer-ge-SCOPE_LIMIT : goal.returns-then-outer-ge-SCOPE_LIMIT
-returns-then-outer-ge-SCOPE_LIMIT c = outer_unfit _ _ (room_count _ _ _ _ c.counter-count.ensures c.has_room.ensures (not-false _ c.if-not-has_room.false-raw)) _ _ (room_left _ _ _ c.has_room.ensures (not-false _ c.if-not-has_room.false-raw)) c.if-outer-ge-SCOPE_LIMIT.true
+pub returns-in_default : goal.returns-in_default
+returns-in_default c = (rw c.in_default.is at c.room_inside.ensures) _
 
 pub returns-then-source-ge-EXPR_LIMIT : goal.returns-then-source-ge-EXPR_LIMIT
-returns-then-source-ge-EXPR_LIMIT c = with_unfit _ _ (room_count _ _ _ _ c.counter-count.ensures c.has_room.ensures (not-false _ c.if-not-has_room.false-raw)) _ _ (room_left _ _ _ c.has_room.ensures (not-false _ c.if-not-has_room.false-raw)) c.if-outer-ge-SCOPE_LIMIT.false c.if-source-ge-EXPR_LIMIT.true
+returns-then-source-ge-EXPR_LIMIT c =
+    let r = rw c.in-Some.is at c.room_inside.ensures in
+    with_unfit _ _ r.0 _ _ r.1.0 r.1.1 c.if-source-ge-EXPR_LIMIT.true
 
 pub get32-first-requires : goal.get32-first-requires
-get32-first-requires c = omega (arith, c.wide.ensures, room_left c.has_room.result c.counter-count.result.used scope_limit c.has_room.ensures (not-false _ c.if-not-has_room.false-raw))
+get32-first-requires c = omega (arith, c.wide.ensures, (rw c.in-Some.is at c.room_inside.ensures).1.0)
 
 pub put_scope-requires : goal.put_scope-requires
-put_scope-requires c = (c.requires, room_left _ _ _ c.has_room.ensures (not-false _ c.if-not-has_room.false-raw))
+put_scope-requires c = (c.requires, (rw c.in-Some.is at c.room_inside.ensures).1.0)
 
 pub returns : goal.returns
-returns c = with_more _ _ (room_count _ _ _ _ c.counter-count.ensures c.has_room.ensures (not-false _ c.if-not-has_room.false-raw)) _ (rw c.wide.ensures at c.get32-first.ensures) _ _ _ c.requires (room_left _ _ _ c.has_room.ensures (not-false _ c.if-not-has_room.false-raw)) c.if-outer-ge-SCOPE_LIMIT.false c.if-source-ge-EXPR_LIMIT.false c.put_scope.ensures
+returns c =
+    let r = rw c.in-Some.is at c.room_inside.ensures in
+    with_more _ _ r.0 _ (rw c.wide.ensures at c.get32-first.ensures) _ _ _ c.requires r.1.0 r.1.1 c.if-source-ge-EXPR_LIMIT.false c.put_scope.ensures

@@ -1,8 +1,13 @@
 -- `kept::scopes::scope_parent` meets its contract.
-use Rattle.kept.proofs.ScopeReads.{parent_is}
+use Rattle.kept.proofs.ScopeReads.{parent_is, raised_none, raised_some}
 use Rattle.layout.specs.Rows.{raised}
-use mathlib.Core.Path.{sym, ap, ◌∙◌}
+use Rattle.module.specs.Ids.{scope_of}
+use mathlib.Core.Path.{◌≡◌, sym, ap, ◌∙◌}
+use native.Mathlib.Omega.{arith}
 use Rattle.kept.proofs.scopes.scope_parent.Goals as goal
 
 pub returns : goal.returns
-returns c = c.raised_scope.ensures ∙ ap raised c.scope_word.ensures ∙ sym (parent_is _ _)
+unfolding scope_of
+returns c =
+    let e : scope_of c.map.result ≡ raised c.scope_word.result = grind (arith, raised_none, raised_some) in
+    e ∙ ap raised c.scope_word.ensures ∙ sym (parent_is _ _)

@@ -2,7 +2,7 @@
 use Rattle.layout.specs.Keeps.{scopes_in}
 use Rattle.resolve.proofs.ChainLaws.{one_comes, none_comes}
 use Rattle.resolve.proofs.IdLaws.{an_expr, no_expr}
-use Rattle.resolve.proofs.WithListLaws.{with_next, with_past, writing_none, writing_room, writing_on, writing_done}
+use Rattle.resolve.proofs.WithListLaws.{with_next, with_past, writing_room, writing_on, writing_done}
 use Rattle.spec.specs.Answer.{withs_of}
 use mathlib.Core.Path.{ap}
 use native.Mathlib.Omega.{arith}

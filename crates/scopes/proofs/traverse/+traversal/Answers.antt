@@ -1,18 +1,14 @@
 -- The functions of the cycle `+traversal` meet their contracts.
-use Rattle.layout.specs.Exprs.{Item, pattern}
+use Rattle.layout.specs.Exprs.{pattern}
 use Rattle.rows.specs.Decoded.{pattern_with}
 use Rattle.scopes.proofs.FormLaws.{missing_arm, apply_arm, cond_arm, literal_arm, lambda_arm, let_arm, list_arm, binop_arm, set_arm, unary_arm, reference_arm, select_arm, has_arm, with_arm, assert_arm, string_arm, path_arm}
 use Rattle.scopes.proofs.PickLaws.{items_start, items_turn, items_end}
 use Rattle.scopes.proofs.Steps.{child_walked, child_left, follows_then, follows_none}
 use Rattle.scopes.proofs.TraverseLaws.{bindings_walked, lambda_walked, path_walked}
 use Rattle.scopes.specs.Picking.{picked, picks_of}
-use Rattle.layout.specs.Texts.{text_in}
-use mathlib.Core.List.{[], ◌∷◌}
 use mathlib.Core.Logic.{inl, inr}
-use mathlib.Core.Path.{◌∙◌, ap}
 use Rattle.module.specs.Ids.{expr_of}
 use Rattle.spec.specs.Scopes.{one_or_none, field_defaults, pat_fields}
-use native.Mathlib.Omega.{arith}
 use Rattle.scopes.proofs.traverse.+traversal.Goals as goal
 
 -- ---- child
@@ -116,7 +112,7 @@ pub walk_items-loop-i-preserved : goal.walk_items-loop-i-preserved
 unfolding picks_of
 walk_items-loop-i-preserved t c =
     items_turn _ c.item_count-i-end.ensures.0 c.loop-i.invariant _ c.loop-i-test.true
-    (c.pick-first.ensures (text_in c.loop-i.store) ∙ ap (λ (j : Item). picked c.args.pass (j ∷ [])) c.read_item.ensures)
+    c.pick_item-first.ensures
     (follows_then c.child_if_any.ensures c.child_if_any-in-loop-i.ensures)
 
 pub walk_items-returns : goal.walk_items-returns
