@@ -18,7 +18,7 @@ const LARGEST_INTEGER: u64 = 9223372036854775807;
 // The bits of infinity. Those of a NaN are above them.
 const LARGEST_FLOAT: u64 = 9218868437227405312;
 
-// One digit more, in the base. Whatever goes past the largest literal is too large, so that it can stop growing.
+// One digit more, in the base. What is too large stays so with every digit more.
 fn with_digit(base: u64, value: u64, digit: u8) -> u64
     ensures { result ≡ capped (base * value + digit) }
 {

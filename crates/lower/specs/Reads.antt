@@ -3,10 +3,10 @@ use Rattle.std.specs.Prelude.{◌≡◌, Bool, true, false, List, [], ◌∷◌,
 use Rattle.std.proofs.Math.Option.{Option, none, some}
 use Rattle.spec.specs.Basics.{Text, NodeId, ExprId}
 use Rattle.spec.specs.Sheet.{Node}
-use Rattle.spec.specs.Keys.{kind, kid, kid_of, pointer, flag}
+use Rattle.spec.specs.Keys.{kind, kid, kid_of, flag}
 use Rattle.spec.specs.State.{SetId, Low}
 use Rattle.spec.specs.Merge.{find, nested_at, entries_of}
-use Rattle.module.specs.Ids.{node_of, pointer_of}
+use Rattle.module.specs.Ids.{node_of}
 use Rattle.module.specs.declared.expr.Pattern.{Pattern}
 use Rattle.module.specs.declared.expr.Pattern.TheVariants.{Absent, Closed, Ellipsis}
 use Rattle.layout.specs.Layout.{kid_limit}

@@ -55,7 +55,8 @@ fn finish_entry(store: &mut [u8], bound: u32, e: Entry)
     }
 }
 
-// Pushes the bindings of a set, in the order of the run.
+// Pushes the bindings of a set, in the order of the run. The place is counted by hand: what an entry pushes goes into
+// the store that the next one is read from, which no iterator could have borrowed.
 #[cycle(finishing)]
 pub fn finish(store: &mut [u8], bound: u32, s: SetId)
     requires { Long store.old }
