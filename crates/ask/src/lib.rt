@@ -18,7 +18,8 @@ use answer::Answer;
 use kept::kept_answer;
 use layout::wide;
 use module::{ExprId, NameId};
-use replies::{refuse, tell_answer, tell_list};
+use refusals::Refusal;
+use replies::{Refused, tell_answer, tell_list};
 use requests::begin;
 use resolve::{list_kept_references, list_withs};
 use rows::{expr_count, name_count};
@@ -30,9 +31,7 @@ fn list_answer(store: &[u8], e: ExprId, a: Answer, buffer: &mut [u8]) -> u32
     ensures { Lists (with_list (answer_with a (withs_at (scopes_in store.now) e.0))) buffer.old result buffer.new }
 {
     match a {
-        Answer::Unresolved => 0,
-        Answer::Definition(_) => 0,
-        Answer::Builtin(_) => 0,
+        Answer::Unresolved | Answer::Definition(_) | Answer::Builtin(_) => 0,
         Answer::Withs => list_withs(store, e, buffer),
     }
 }
@@ -43,15 +42,15 @@ fn tell_reference(store: &[u8], number: u32, buffer: &mut [u8], reply: &mut [u8]
     ensures { Asked (ask_reference number (length buffer.old) (length reply.old)) store.now buffer.old reply.old result buffer.new reply.new }
 {
     if expr_count(store) <= number {
-        return refuse(reply, 24, number);
+        return Refused(Refusal::NoSuchNumber, number).tell(reply);
     }
     let Some(a) = kept_answer(store, ExprId(number)) else {
-        return refuse(reply, 25, number);
+        return Refused(Refusal::NotAReference, number).tell(reply);
     };
     let room = buffer.len();
     let with_count = list_answer(store, ExprId(number), a, buffer);
     if room < 4 * wide(with_count) {
-        return refuse(reply, 26, with_count);
+        return Refused(Refusal::BufferShort, with_count).tell(reply);
     }
     tell_answer(reply, a, with_count)
 }
@@ -72,12 +71,12 @@ fn tell_name(store: &[u8], number: u32, buffer: &mut [u8], reply: &mut [u8]) -> 
     ensures { Asked (ask_name number (length buffer.old) (length reply.old)) store.now buffer.old reply.old result buffer.new reply.new }
 {
     if name_count(store) <= number {
-        return refuse(reply, 24, number);
+        return Refused(Refusal::NoSuchNumber, number).tell(reply);
     }
     let room = buffer.len();
     let use_count = list_kept_references(store, NameId(number), buffer);
     if room < 4 * wide(use_count) {
-        return refuse(reply, 26, use_count);
+        return Refused(Refusal::BufferShort, use_count).tell(reply);
     }
     tell_list(reply, use_count)
 }

@@ -26,11 +26,11 @@ use Rattle.moving.specs.Moving.{Refers}
 use Rattle.requests.specs.Requests.{own_outcome}
 use Rattle.nameres.proofs.StepLaws.{exprs_many}
 use Rattle.requests.proofs.StateLaws.{names_counted}
-use Rattle.change.specs.Judged.{from_text, from_moved, after_text, JudgesText, outcome_of, Judges}
-use Rattle.change.specs.declared.new_text.NewText.{NewText}
-use Rattle.change.specs.declared.new_text.NewText.TheVariants.{Unfit, Same, Other}
-use Rattle.change.specs.declared.judging.Verdict.{Verdict}
-use Rattle.change.specs.declared.judging.Verdict.TheVariants.{Refused, Equal, Moves}
+use Rattle.change.specs.Judged.{from_text, from_moved, after_text, JudgesText, outcome_of, moves_within, Judges}
+use Rattle.refusals.specs.Numbers.{number_of}
+use Rattle.refusals.specs.declared.refusal.Refusal.{Refusal}
+use Rattle.refusals.specs.declared.refusal.Refusal.TheVariants.{MovedShort, TextTooLong, NoSuchNumber, NotAReference, RoomSpent}
+use Rattle.replies.specs.declared.Refused.{Refused}
 use Rattle.module.specs.declared.ids.TextId as rust_text_id
 use Rattle.std.specs.Prelude as rust
 
@@ -55,7 +55,7 @@ moved_none k c h = rw (h, nothing_differs k.lowered (kept_answer k))
 
 -- ---- 8 and 27
 module _ (s : List ℕ) (h : ℕ) (t : Text) where
-  pub text_long : 255 < length t → JudgesText s h t (Unfit 8 255)
+  pub text_long : 255 < length t → JudgesText s h t (rust.Err (record { 0 = TextTooLong; 1 = 255 }))
   unfolding give_text check after_text
   text_long l =
       record {
@@ -65,7 +65,7 @@ module _ (s : List ℕ) (h : ℕ) (t : Text) where
       }
 
   module _ (short : length t ≤ 255) (same : Bool) (compared : same ≡ equalb (text_in s h) t) where
-    pub text_same : same ≡ true → JudgesText s h t Same
+    pub text_same : same ≡ true → JudgesText s h t (rust.Ok false)
     unfolding give_text in_room check after_text
     text_same q =
         record {
@@ -75,7 +75,7 @@ module _ (s : List ℕ) (h : ℕ) (t : Text) where
         }
 
     module _ (differs : same ≡ false) (full : Bool) (room : full ≡ ltb room_limit ((kept_in s).spent + length t)) where
-      pub text_full : full ≡ true → JudgesText s h t (Unfit 27 0)
+      pub text_full : full ≡ true → JudgesText s h t (rust.Err (record { 0 = RoomSpent; 1 = 0 }))
       unfolding give_text in_room check after_text
       text_full q =
           record {
@@ -84,7 +84,7 @@ module _ (s : List ℕ) (h : ℕ) (t : Text) where
             other = λ u. let z : ◌≡◌ {A = ℕ} 0 1 = cc in absurd (omega arith);
           }
 
-      pub text_other : full ≡ false → JudgesText s h t Other
+      pub text_other : full ≡ false → JudgesText s h t (rust.Ok true)
       unfolding give_text in_room check after_text
       text_other q =
           record {
@@ -103,33 +103,33 @@ record Sets (c : ℕ → Call) (p : Place) (t : Text) (bytes : ℕ) (s : List �
   sets : (reply : ℕ) → kept_with (kept_in s) (c reply) ≡ changed_to (kept_in s) p t
   stands : text_at (kept_in s).lowered p ≡ text_in s h
 
-refuses : (c : ℕ → Call) (p : Place) (t : Text) (bytes : ℕ) (s : List ℕ) (k l : ℕ) → ((reply : ℕ) → own_outcome s (c reply) ≡ refusal k l) → Judges c p t bytes s (Refused k l)
+refuses : (c : ℕ → Call) (p : Place) (t : Text) (bytes : ℕ) (s : List ℕ) (x : Refused) → ((reply : ℕ) → own_outcome s (c reply) ≡ refusal (number_of x.0) x.1) → Judges c p t bytes s (rust.Err x)
 unfolding outcome_of
-refuses c p t bytes s k l h =
+refuses c p t bytes s x h =
     record {
       comes = h;
       equal = λ q. let z : ◌≡◌ {A = ℕ} 0 1 = cc in absurd (omega arith);
       moves = λ n q. let z : ◌≡◌ {A = ℕ} 0 1 = cc in absurd (omega arith);
     }
 
-module _ (c : ℕ → Call) (p : Place) (t : Text) (bytes : ℕ) (s : List ℕ) (h : ℕ) (sets : Sets c p t bytes s h) (r : NewText) (judged : JudgesText s h t r) where
-  comes_to : (v : NewText) → r ≡ v → (reply : ℕ) → own_outcome s (c reply) ≡ after_text v (from_moved s (c reply))
-  comes_to v q reply = sets.own reply ∙ judged.comes (c reply) (sets.old reply) (sets.new reply) ∙ ap (λ (w : NewText). after_text w (from_moved s (c reply))) q
+module _ (c : ℕ → Call) (p : Place) (t : Text) (bytes : ℕ) (s : List ℕ) (h : ℕ) (sets : Sets c p t bytes s h) (r : rust.Result Bool Refused) (judged : JudgesText s h t r) where
+  comes_to : (v : rust.Result Bool Refused) → r ≡ v → (reply : ℕ) → own_outcome s (c reply) ≡ after_text v (from_moved s (c reply))
+  comes_to v q reply = sets.own reply ∙ judged.comes (c reply) (sets.old reply) (sets.new reply) ∙ ap (λ (w : rust.Result Bool Refused). after_text w (from_moved s (c reply))) q
 
-  unfit : (k l : ℕ) → r ≡ Unfit k l → Judges c p t bytes s (Refused k l)
+  unfit : (x : Refused) → r ≡ rust.Err x → Judges c p t bytes s (rust.Err x)
   unfolding after_text
-  unfit k l q = refuses c p t bytes s k l (comes_to (Unfit k l) q)
+  unfit x q = refuses c p t bytes s x (comes_to (rust.Err x) q)
 
-  equal_text : r ≡ Same → Judges c p t bytes s Equal
+  equal_text : r ≡ rust.Ok false → Judges c p t bytes s (rust.Ok rust.None)
   unfolding after_text give_moved check outcome_of
   equal_text q =
       record {
-        comes = λ reply. comes_to Same q reply ∙ rw (moved_none (kept_in s) (c reply) (rw (sets.old reply, sets.new reply) (judged.same q)), le-ltb (buffer_of (c reply)) 0 (omega arith));
+        comes = λ reply. comes_to (rust.Ok false) q reply ∙ rw (moved_none (kept_in s) (c reply) (rw (sets.old reply, sets.new reply) (judged.same q)), le-ltb (buffer_of (c reply)) 0 (omega arith));
         equal = λ _. rw sets.stands (judged.same q);
         moves = λ n u. let z : ◌≡◌ {A = ℕ} 0 1 = cc in absurd (omega arith);
       }
 
-  module _ (q : r ≡ Other) (n : ℕ) (counted : n ≡ length (moved_by (kept_in s) p t)) where
+  module _ (q : r ≡ rust.Ok true) (n : ℕ) (counted : n ≡ length (moved_by (kept_in s) p t)) where
     moves_by : (reply : ℕ) → kept_moved (kept_in s) (c reply) ≡ moved_by (kept_in s) p t
     moves_by reply =
         moved_is (kept_in s) (c reply) p (sets.sets reply ∙ rw (sets.new reply)) (rw (sets.old reply, sets.new reply) (judged.other q).0)
@@ -137,14 +137,14 @@ module _ (c : ℕ → Call) (p : Place) (t : Text) (bytes : ℕ) (s : List ℕ) 
 
     by_moved : (reply : ℕ) → own_outcome s (c reply) ≡ check (ltb bytes (4 * n)) 34 n (accepted (moved_by (kept_in s) p t))
     unfolding after_text give_moved
-    by_moved reply = comes_to Other q reply ∙ rw (moves_by reply, sets.lent reply, counted)
+    by_moved reply = comes_to (rust.Ok true) q reply ∙ rw (moves_by reply, sets.lent reply, counted)
 
-    other_text : (v : Verdict) → v ≡ (if ltb bytes (4 * n) then Refused 34 n else Moves n) → Judges c p t bytes s v
+    other_text : (v : rust.Result (rust.Option ℕ) Refused) → v ≡ moves_within n bytes → Judges c p t bytes s v
     unfolding check outcome_of
     other_text v is = go (ltb bytes (4 * n)) refl
       where
         go : (b : Bool) → ltb bytes (4 * n) ≡ b → Judges c p t bytes s v
-        go true b = rw (is, b) (refuses c p t bytes s 34 n (λ reply. by_moved reply ∙ rw b))
+        go true b = rw (is, b) (refuses c p t bytes s (record { 0 = MovedShort; 1 = n }) (λ reply. by_moved reply ∙ rw b))
         go false b =
             rw (is, b)
             (record {
@@ -171,9 +171,9 @@ pub refers_to : (s : List ℕ) (n : ℕ) (m : rust.Option rust_text_id.TextId) �
 refers_to s n m says h q = record { text = text_in s h; is = text_read_lem s n m says h q }
 
 module _ (s : List ℕ) (n : ℕ) (t : Text) (bytes k : ℕ) (counted : k ≡ length (exprs_of s)) where
-  pub no_expr : k ≤ n → Judges (change_reference n t bytes) (at_reference n) t bytes s (Refused 24 n)
+  pub no_expr : k ≤ n → Judges (change_reference n t bytes) (at_reference n) t bytes s (rust.Err (record { 0 = NoSuchNumber; 1 = n }))
   unfolding answer_call check
-  no_expr l = refuses _ _ _ _ s 24 n (λ reply. rw (le-leb (length (kept_in s).lowered.exprs) n (omega (arith, l, counted, exprs_many s))))
+  no_expr l = refuses _ _ _ _ s (record { 0 = NoSuchNumber; 1 = n }) (λ reply. rw (le-leb (length (kept_in s).lowered.exprs) n (omega (arith, l, counted, exprs_many s))))
 
   module _ (there : n < k) (m : rust.Option rust_text_id.TextId) (says : maybe_text s m ≡ reference_text (expr_at (module_in s) n)) where
     is_expr : (reply : ℕ) → own_outcome s (change_reference n t bytes reply)
@@ -181,11 +181,11 @@ module _ (s : List ℕ) (n : ℕ) (t : Text) (bytes k : ℕ) (counted : k ≡ le
     unfolding answer_call check kept_in
     is_expr reply = rw (lt-leb (length (kept_in s).lowered.exprs) n (omega (arith, there, counted, exprs_many s)))
 
-    pub no_reference : m ≡ rust.None → Judges (change_reference n t bytes) (at_reference n) t bytes s (Refused 25 n)
+    pub no_reference : m ≡ rust.None → Judges (change_reference n t bytes) (at_reference n) t bytes s (rust.Err (record { 0 = NotAReference; 1 = n }))
     unfolding if_reference maybe_text
     no_reference q =
         let lost : reference_text (expr_at (module_in s) n) ≡ none = sym says ∙ ap (maybe_text s) q in
-        refuses _ _ _ _ s 25 n (λ reply. is_expr reply ∙ rw lost)
+        refuses _ _ _ _ s (record { 0 = NotAReference; 1 = n }) (λ reply. is_expr reply ∙ rw lost)
 
     module _ (h : ℕ) (q : m ≡ rust.Some (record { 0 = h })) where
       sets_reference : Sets (change_reference n t bytes) (at_reference n) t bytes s h
@@ -201,22 +201,22 @@ module _ (s : List ℕ) (n : ℕ) (t : Text) (bytes k : ℕ) (counted : k ≡ le
             stands = rw reads;
           }
 
-      module _ (r : NewText) (judged : JudgesText s h t r) where
-        pub reference_unfit : (number place : ℕ) → r ≡ Unfit number place → Judges (change_reference n t bytes) (at_reference n) t bytes s (Refused number place)
+      module _ (r : rust.Result Bool Refused) (judged : JudgesText s h t r) where
+        pub reference_unfit : (x : Refused) → r ≡ rust.Err x → Judges (change_reference n t bytes) (at_reference n) t bytes s (rust.Err x)
         reference_unfit = unfit _ _ _ _ s h sets_reference r judged
 
-        pub reference_equal : r ≡ Same → Judges (change_reference n t bytes) (at_reference n) t bytes s Equal
+        pub reference_equal : r ≡ rust.Ok false → Judges (change_reference n t bytes) (at_reference n) t bytes s (rust.Ok rust.None)
         reference_equal = equal_text _ _ _ _ s h sets_reference r judged
 
-        pub reference_other : r ≡ Other → (i : ℕ) → i ≡ length (moved_by (kept_in s) (at_reference n) t)
-            → (v : Verdict) → v ≡ (if ltb bytes (4 * i) then Refused 34 i else Moves i) → Judges (change_reference n t bytes) (at_reference n) t bytes s v
+        pub reference_other : r ≡ rust.Ok true → (i : ℕ) → i ≡ length (moved_by (kept_in s) (at_reference n) t)
+            → (v : rust.Result (rust.Option ℕ) Refused) → v ≡ moves_within i bytes → Judges (change_reference n t bytes) (at_reference n) t bytes s v
         reference_other = other_text _ _ _ _ s h sets_reference r judged
 
 -- ---- of a name
 module _ (s : List ℕ) (n : ℕ) (t : Text) (bytes k : ℕ) (counted : k ≡ length (names_of s)) where
-  pub no_name : k ≤ n → Judges (change_name n t bytes) (at_name n) t bytes s (Refused 24 n)
+  pub no_name : k ≤ n → Judges (change_name n t bytes) (at_name n) t bytes s (rust.Err (record { 0 = NoSuchNumber; 1 = n }))
   unfolding answer_call check
-  no_name l = refuses _ _ _ _ s 24 n (λ reply. rw (le-leb (length (kept_in s).lowered.names) n (omega (arith, l, counted, names_counted s))))
+  no_name l = refuses _ _ _ _ s (record { 0 = NoSuchNumber; 1 = n }) (λ reply. rw (le-leb (length (kept_in s).lowered.names) n (omega (arith, l, counted, names_counted s))))
 
   module _ (there : n < k) (h : ℕ) (held : text_in s h ≡ (name_at (module_in s) n).text) where
     sets_name : Sets (change_name n t bytes) (at_name n) t bytes s h
@@ -231,13 +231,13 @@ module _ (s : List ℕ) (n : ℕ) (t : Text) (bytes k : ℕ) (counted : k ≡ le
           stands = sym held;
         }
 
-    module _ (r : NewText) (judged : JudgesText s h t r) where
-      pub name_unfit : (number place : ℕ) → r ≡ Unfit number place → Judges (change_name n t bytes) (at_name n) t bytes s (Refused number place)
+    module _ (r : rust.Result Bool Refused) (judged : JudgesText s h t r) where
+      pub name_unfit : (x : Refused) → r ≡ rust.Err x → Judges (change_name n t bytes) (at_name n) t bytes s (rust.Err x)
       name_unfit = unfit _ _ _ _ s h sets_name r judged
 
-      pub name_equal : r ≡ Same → Judges (change_name n t bytes) (at_name n) t bytes s Equal
+      pub name_equal : r ≡ rust.Ok false → Judges (change_name n t bytes) (at_name n) t bytes s (rust.Ok rust.None)
       name_equal = equal_text _ _ _ _ s h sets_name r judged
 
-      pub name_other : r ≡ Other → (i : ℕ) → i ≡ length (moved_by (kept_in s) (at_name n) t)
-          → (v : Verdict) → v ≡ (if ltb bytes (4 * i) then Refused 34 i else Moves i) → Judges (change_name n t bytes) (at_name n) t bytes s v
+      pub name_other : r ≡ rust.Ok true → (i : ℕ) → i ≡ length (moved_by (kept_in s) (at_name n) t)
+          → (v : rust.Result (rust.Option ℕ) Refused) → v ≡ moves_within i bytes → Judges (change_name n t bytes) (at_name n) t bytes s v
       name_other = other_text _ _ _ _ s h sets_name r judged

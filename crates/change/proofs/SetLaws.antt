@@ -25,8 +25,9 @@ use Rattle.replies.specs.Replies.{list_of, buffer_after, Told, ToldMoved}
 use Rattle.requests.specs.Requests.{outcome_in, own_outcome, Leaves, Changed}
 use Rattle.requests.proofs.StateLaws.{state_passed, equal_leaves, told_changed, refused_changed}
 use Rattle.change.specs.Judged.{outcome_of, Settable, Judges}
-use Rattle.change.specs.declared.judging.Verdict.{Verdict}
-use Rattle.change.specs.declared.judging.Verdict.TheVariants.{Refused, Equal, Moves}
+use Rattle.refusals.specs.Numbers.{number_of}
+use Rattle.replies.specs.declared.Refused.{Refused}
+use Rattle.std.specs.Prelude as rust
 use Rattle.change.proofs.JudgeLaws.{changed_is}
 
 -- a text that may be set, in a buffer of so many bytes
@@ -40,8 +41,8 @@ changeable p t n s b fits set =
     }
 
 -- what is set as a Reference's is one
-pub refers_settable : (s : List ℕ) (number : ℕ) (t : Text) (bytes : ℕ) {v : Verdict} → Judges (change_reference number t bytes) (at_reference number) t bytes s v
-    → (n : ℕ) → v ≡ Moves n → Refers number s
+pub refers_settable : (s : List ℕ) (number : ℕ) (t : Text) (bytes : ℕ) {v : rust.Result (rust.Option ℕ) Refused} → Judges (change_reference number t bytes) (at_reference number) t bytes s v
+    → (n : ℕ) → v ≡ rust.Ok (rust.Some n) → Refers number s
 unfolding outcome_of answer_call check if_reference kept_in
 refers_settable s number t bytes judged n q =
     go (leb (length (kept_in s).lowered.exprs) number) refl (reference_text (expr_at (kept_in s).lowered number)) refl (judged.comes 0 ∙ rw q)
@@ -56,25 +57,25 @@ module _ (c : ℕ → Call) (place : Place) (text : Text) (s b p : List ℕ) (fi
     (lent : reply_of (c (length p)) ≡ length p)
     (old : old_text (kept_in s).lowered (c (length p)) ≡ text_at (kept_in s).lowered place) (new : new_text (c (length p)) ≡ text)
     (sets : kept_with (kept_in s) (c (length p)) ≡ changed_to (kept_in s) place text)
-    (v : Verdict) (judged : Judges c place text (length b) s v) where
+    (v : rust.Result (rust.Option ℕ) Refused) (judged : Judges c place text (length b) s v) where
   abbrev this : Call
   this = c (length p)
 
-  comes_to : (w : Verdict) → v ≡ w → outcome_in s this ≡ outcome_of w (moved_by (kept_in s) place text)
-  comes_to w q = state_passed s this fits (rw lent long) ∙ judged.comes (length p) ∙ ap (λ (u : Verdict). outcome_of u (moved_by (kept_in s) place text)) q
+  comes_to : (w : rust.Result (rust.Option ℕ) Refused) → v ≡ w → outcome_in s this ≡ outcome_of w (moved_by (kept_in s) place text)
+  comes_to w q = state_passed s this fits (rw lent long) ∙ judged.comes (length p) ∙ ap (λ (u : rust.Result (rust.Option ℕ) Refused). outcome_of u (moved_by (kept_in s) place text)) q
 
-  pub refused : (k l : ℕ) → v ≡ Refused k l → (r : ℕ) (p' : List ℕ) → Told (refusal k l) p r p' → Changed this s b p r s b p'
+  pub refused : (x : Refused) → v ≡ rust.Err x → (r : ℕ) (p' : List ℕ) → Told (refusal (number_of x.0) x.1) p r p' → Changed this s b p r s b p'
   unfolding outcome_of
-  refused k l q r p' told = refused_changed this s b p r p' k l (comes_to (Refused k l) q) told
+  refused x q r p' told = refused_changed this s b p r p' (number_of x.0) x.1 (comes_to (rust.Err x) q) told
 
-  pub equal : v ≡ Equal → (r : ℕ) (p' : List ℕ) → ToldMoved 0 p r p' → Changed this s b p r s b p'
+  pub equal : v ≡ rust.Ok rust.None → (r : ℕ) (p' : List ℕ) → ToldMoved 0 p r p' → Changed this s b p r s b p'
   unfolding outcome_of buffer_after list_of set_all
-  equal q r p' told = told_changed this s b p r s b p' (accepted []) (comes_to Equal q) (told.says [] refl) refl (equal_leaves this s (rw (old, new) (judged.equal q)))
+  equal q r p' told = told_changed this s b p r s b p' (accepted []) (comes_to (rust.Ok rust.None) q) (told.says [] refl) refl (equal_leaves this s (rw (old, new) (judged.equal q)))
 
-  module _ (n : ℕ) (q : v ≡ Moves n) (t b' : List ℕ) (does : Changes place text s b t b') where
+  module _ (n : ℕ) (q : v ≡ rust.Ok (rust.Some n)) (t b' : List ℕ) (does : Changes place text s b t b') where
     is_accepted_lem : kept_outcome (condition_of s) (kept_in s) this ≡ accepted (moved_by (kept_in s) place text)
     unfolding outcome_in outcome_of
-    is_accepted_lem = comes_to (Moves n) q
+    is_accepted_lem = comes_to (rust.Ok (rust.Some n)) q
 
     change_leaves : Leaves this s t
     unfolding outcome_in kept_after is_accepted

@@ -12,10 +12,10 @@ ghost use Rattle.requests.specs.Requests.{Changed};
 mod judging;
 mod new_text;
 
-use judging::{Verdict, judge_name, judge_reference};
+use judging::{judge_name, judge_reference};
 use module::{ExprId, NameId};
 use put_text::{put_name_text, put_reference_text};
-use replies::{accept, refuse};
+use replies::accept;
 use requests::begin;
 
 // In a fit store. An equal text changes and moves nothing.
@@ -30,12 +30,14 @@ fn set_reference(
     ensures { Changed (change_reference number text.now (length moved.old) (length reply.old)) store.old moved.old reply.old result store.new moved.new reply.new }
 {
     match judge_reference(store, number, text, moved.len()) {
-        Verdict::Refused(why, place) => refuse(reply, why, place),
-        Verdict::Equal => accept(reply, 0),
-        Verdict::Moves(count) => {
-            put_reference_text(store, ExprId(number), text, moved);
-            accept(reply, count)
-        }
+        Err(refused) => refused.tell(reply),
+        Ok(judged) => match judged {
+            None => accept(reply, 0),
+            Some(count) => {
+                put_reference_text(store, ExprId(number), text, moved);
+                accept(reply, count)
+            }
+        },
     }
 }
 
@@ -61,12 +63,14 @@ fn set_name(store: &mut [u8], number: u32, text: &[u8], moved: &mut [u8], reply:
     ensures { Changed (change_name number text.now (length moved.old) (length reply.old)) store.old moved.old reply.old result store.new moved.new reply.new }
 {
     match judge_name(store, number, text, moved.len()) {
-        Verdict::Refused(why, place) => refuse(reply, why, place),
-        Verdict::Equal => accept(reply, 0),
-        Verdict::Moves(count) => {
-            put_name_text(store, NameId(number), text, count, moved);
-            accept(reply, count)
-        }
+        Err(refused) => refused.tell(reply),
+        Ok(judged) => match judged {
+            None => accept(reply, 0),
+            Some(count) => {
+                put_name_text(store, NameId(number), text, count, moved);
+                accept(reply, count)
+            }
+        },
     }
 }
 

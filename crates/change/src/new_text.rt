@@ -8,19 +8,13 @@ use kept::spent;
 use layout::tables::ROOM_LIMIT;
 use layout::wide;
 use module::TextId;
+use refusals::Refusal;
+use replies::Refused;
 use texts::text_is;
 
 const TEXT_LIMIT: usize = 255;
 
 const ROOM: usize = ROOM_LIMIT as usize;
-
-// A refusal's number and place; the text that is there already; or another one, which may be set.
-#[derive(Clone, Copy)]
-pub enum NewText {
-    Unfit(u32, u32),
-    Same,
-    Other,
-}
 
 // Whether what is left of the change room is too little for a text.
 fn lacks_room(store: &[u8], text: &[u8]) -> bool
@@ -30,19 +24,19 @@ fn lacks_room(store: &[u8], text: &[u8]) -> bool
     ROOM < wide(spent(store)) + text.len()
 }
 
-// 8, then 27, which an equal text never meets.
-pub fn judge_text(store: &[u8], held: TextId, text: &[u8]) -> NewText
+// Whether the new text is another than the one that is there: 8, then 27, which an equal text never meets.
+pub fn judge_text(store: &[u8], held: TextId, text: &[u8]) -> Result<bool, Refused>
     requires { Long store.now }
     ensures { JudgesText store.now held.0 text.now result }
 {
     if TEXT_LIMIT < text.len() {
-        return NewText::Unfit(8, 255);
+        return Err(Refused(Refusal::TextTooLong, 255));
     }
     if text_is(store, held, text) {
-        return NewText::Same;
+        return Ok(false);
     }
     if lacks_room(store, text) {
-        return NewText::Unfit(27, 0);
+        return Err(Refused(Refusal::RoomSpent, 0));
     }
-    NewText::Other
+    Ok(true)
 }

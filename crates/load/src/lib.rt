@@ -11,7 +11,8 @@ use intake::bring_nodes;
 use layout::tables::STORE_BYTES;
 use lower::lower;
 use nameres::keep_module;
-use replies::{REPLY_BYTES, accept, refuse};
+use refusals::Refusal;
+use replies::{REPLY_BYTES, Refused, accept, refuse};
 use store::clear;
 
 // The nodes of an accepted sheet, then what is made of them. All counts are 0 first, so that nothing of an earlier load
@@ -35,10 +36,10 @@ pub fn load(sheet: &[u8], store: &mut [u8], reply: &mut [u8]) -> u32
     ensures leaves { Leaves (judged_in sheet.now store.old reply.old) store.old store.new }
 {
     if reply.len() < REPLY_BYTES {
-        return 21;
+        return Refusal::StoreShort.number();
     }
     if store.len() < STORE_BYTES {
-        return refuse(reply, 21, 0);
+        return Refused(Refusal::StoreShort, 0).tell(reply);
     }
     match tree::judge(sheet) {
         Err(refused) => {

@@ -5,10 +5,12 @@
 
 ghost use Rattle.std.specs.Prelude.{◌≡◌, ℕ, ◌≤◌, ◌<◌, length};
 ghost use Rattle.spec.specs.Calls.{reply_bytes, refusal};
+ghost use Rattle.refusals.specs.Numbers.{number_of};
 ghost use Rattle.replies.specs.Replies.{Told, ToldMoved, ToldList, ToldAnswer};
 
 use answer::{Answer, answer_number, answer_value};
 use layout::put_words;
+use refusals::Refusal;
 
 // Five words: a shorter reply is not written.
 pub const REPLY_BYTES: usize = 20;
@@ -20,6 +22,20 @@ pub fn refuse(reply: &mut [u8], number: u32, place: u32) -> u32
 {
     put_words(reply, 0, [number, place, 0, 0, 0]);
     number
+}
+
+// What a call is refused for, and the place.
+#[derive(Clone, Copy, PartialEq, Eq)]
+pub struct Refused(pub Refusal, pub u32);
+
+impl Refused {
+    // A refusal by its name is told by its number.
+    pub fn tell(self, reply: &mut [u8]) -> u32
+        requires { reply_bytes ≤ length reply.old }
+        ensures { Told (refusal (number_of self.0) self.1) reply.old result reply.new }
+    {
+        refuse(reply, self.0.number(), self.1)
+    }
 }
 
 // A load, or a change, that is done: how many References it moved; they stand in the buffer. A load moves none.
