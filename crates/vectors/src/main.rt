@@ -278,6 +278,7 @@ fn run_sheet<W: Write>(
 // Vectors one after the other, until the list ends or one has another form.
 fn run_list<W: Write>(out: &mut W, list: &[u8], store: &mut [u8; STORE_BYTES]) -> io::Result<()> {
     let mut at = after_first_line(list);
+    // No `for`: each vector says by its own lines where the next one begins.
     while at < list.len() {
         let title = after_first_line(&list[at..]);
         if title == 0 {
