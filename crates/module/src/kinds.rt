@@ -2,38 +2,36 @@
 ghost use Rattle.std.specs.Prelude.{◌≡◌};
 ghost use Rattle.module.specs.Kinds.{number_of_kind, kind_of_number};
 
+// A variant's number is its kind's number in a store.
 #[derive(Clone, Copy)]
 pub enum NameKind {
-    LetIn,
-    PlainAttrset,
-    RecAttrset,
-    Param,
-    PatField,
+    LetIn = 0,
+    PlainAttrset = 1,
+    RecAttrset = 2,
+    Param = 3,
+    PatField = 4,
 }
 
 impl NameKind {
     pub fn number(self) -> u32
         ensures { result ≡ number_of_kind self }
     {
-        match self {
-            NameKind::LetIn => 0,
-            NameKind::PlainAttrset => 1,
-            NameKind::RecAttrset => 2,
-            NameKind::Param => 3,
-            NameKind::PatField => 4,
-        }
+        self as u32
     }
 }
 
 // The kind that has the number; the last one for a number that no kind has.
-pub fn name_kind(number: u32) -> NameKind
-    ensures { result ≡ kind_of_number number }
-{
-    match number {
-        0 => NameKind::LetIn,
-        1 => NameKind::PlainAttrset,
-        2 => NameKind::RecAttrset,
-        3 => NameKind::Param,
-        _ => NameKind::PatField,
+impl From<u32> for NameKind {
+    ghost from_gives = { λ number kind. kind ≡ kind_of_number number };
+
+    #[tactic(auto, unfolding(crate::specs::Kinds::kind_of_number))]
+    fn from(number: u32) -> NameKind {
+        match number {
+            0 => NameKind::LetIn,
+            1 => NameKind::PlainAttrset,
+            2 => NameKind::RecAttrset,
+            3 => NameKind::Param,
+            _ => NameKind::PatField,
+        }
     }
 }

@@ -12,7 +12,7 @@ use crate::entries::entry_count;
 use crate::entry::SetId;
 use layout::tables::{SET_COUNT, SET_LIMIT, SET_ROW, SETS};
 use layout::{at_most, counter, get_pointer, put_pointer, put_words, wide};
-use module::{NameKind, Pointer, name_kind};
+use module::{NameKind, Pointer};
 use words::{get32, put32};
 
 pub fn set_count(store: &[u8]) -> u32
@@ -64,7 +64,7 @@ pub fn set_name_kind(store: &[u8], s: SetId) -> NameKind
     if set_count(store) <= n {
         return NameKind::PlainAttrset;
     }
-    name_kind(get32(store, SETS + SET_ROW * wide(n) + 12))
+    NameKind::from(get32(store, SETS + SET_ROW * wide(n) + 12))
 }
 
 // At most so many sets and entries stay. The run has a place for each entry, and keeps as many.

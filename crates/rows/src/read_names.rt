@@ -10,7 +10,7 @@ ghost use Rattle.layout.specs.States.{module_in};
 use crate::read_counts::name_count;
 use layout::tables::{ABSENT, NAME_POINTERS, NAME_ROW, NAMES, POINTER_ROW};
 use layout::{get_pointer, wide};
-use module::{NameId, NameKind, Pointer, TextId, name_kind};
+use module::{NameId, NameKind, Pointer, TextId};
 use words::get32;
 
 pub fn name_text(store: &[u8], x: NameId) -> TextId
@@ -32,7 +32,7 @@ pub fn name_kind_of(store: &[u8], x: NameId) -> NameKind
     if name_count(store) <= n {
         return NameKind::PlainAttrset;
     }
-    name_kind(get32(store, NAMES + NAME_ROW * wide(n) + 4))
+    NameKind::from(get32(store, NAMES + NAME_ROW * wide(n) + 4))
 }
 
 pub fn name_pointer(store: &[u8], x: NameId) -> Pointer

@@ -8,4 +8,4 @@ unfolding kind_of
 returns-then-set_count-n c = rw (set_out _ _ _ c.set_count.ensures.0 c.if-set_count-n.true)
 
 pub returns : goal.returns
-returns c = set_kind_in _ _ _ c.set_count.ensures.0 _ _ _ c.if-set_count-n.false c.wide.ensures c.get32.ensures c.name_kind.ensures
+returns c = set_kind_in _ _ _ c.set_count.ensures.0 _ _ _ c.if-set_count-n.false c.wide.ensures c.get32.ensures c.from.ensures

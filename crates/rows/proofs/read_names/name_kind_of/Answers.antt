@@ -8,4 +8,4 @@ unfolding kind_of
 returns-then-name_count-n c = rw (name_out _ _ _ c.name_count.ensures.0 c.if-name_count-n.true)
 
 pub returns : goal.returns
-returns c = name_kind_in _ _ _ c.name_count.ensures.0 _ _ _ c.if-name_count-n.false c.wide.ensures c.get32.ensures c.name_kind.ensures
+returns c = name_kind_in _ _ _ c.name_count.ensures.0 _ _ _ c.if-name_count-n.false c.wide.ensures c.get32.ensures c.from.ensures
