@@ -219,6 +219,8 @@ texts_at = kids_at + 4 * kid_limit
 abbrev pub store_bytes : ℕ
 store_bytes = texts_at + text_limit
 
--- a store that is long enough
+-- a store that is long enough. Contracts ask for it, and no type carries it: a type for writers would have to say
+-- whose bytes it holds, a clause for a clause, and one for readers alone would have to be made anew at each of the
+-- writers' calls of them, which are more than the clauses that it would take away (docs/DESIGN-PASS.md, point 5)
 abbrev pub Long : List ℕ → Type 0
 Long s = store_bytes ≤ length s

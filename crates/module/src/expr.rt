@@ -2,7 +2,8 @@
 use crate::ids::{BindingValue, ExprId, NameId, TextId};
 use crate::literal::Literal;
 
-// Whether a Lambda has a pattern, and whether that ends in an ellipsis.
+// Whether a Lambda has a pattern, and whether that ends in an ellipsis. The three cases have names: an `Option<bool>`
+// would have to say beside each use what its bool is.
 #[derive(Clone, Copy)]
 pub enum Pattern {
     Absent,
@@ -24,7 +25,7 @@ pub enum Expr {
     LetIn(ExprId),
     // Items: children.
     List,
-    // Left, right, operator.
+    // Left, right, operator. Operators are numbers here as in the definitions: nobody looks at which one it is.
     BinOp(ExprId, ExprId, u32),
     // Whether it is rec; items: bindings.
     AttrSet(bool),

@@ -10,7 +10,8 @@ pub fn copy_run(s: &mut [u8], at: usize, t: &[u8])
     s[at..at + t.len()].copy_from_slice(t);
 }
 
-// Writes the n bytes from `from` on over those from `to` on. The two runs may overlap.
+// Writes the n bytes from `from` on over those from `to` on. The two runs may overlap, so that they are places and a
+// length, as for `copy_within`: a slice can't be lent as two that share bytes when one is written.
 pub fn move_run(s: &mut [u8], from: usize, to: usize, n: usize)
     requires { (from + n ≤ length s.old) × (to + n ≤ length s.old) }
     ensures { s.new ≡ splice s.old to (run s.old from n) }
