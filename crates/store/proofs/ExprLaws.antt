@@ -507,16 +507,13 @@ item_unpushed s i n e h =
     let a : ltb (length (waiting_of s)) waiting_limit ≡ false = le-ltb (length (waiting_of s)) waiting_limit (omega (arith, length_waiting s, cap_over (word s waiting_count) waiting_limit (omega arith))) in
     nothing_done (λ fine. rw a)
 
--- ---- places as the code has them
-pub take_inside : (s : List ℕ) (base first count a b c : ℕ) → Long s → first + count ≤ item_limit → count ≡ length (drop base (waiting_of s)) → 0 < count → a ≡ base → b ≡ first → c ≡ count → (waiting_at + item_row * a + 12 * c ≤ length s) × (items_at + item_row * b + 12 * c ≤ length s)
-take_inside s base first count a b c long room size h p q r =
+-- ---- the two places that a move touches
+pub take_inside : (s : List ℕ) (base first count : ℕ) → Long s → first + count ≤ item_limit → count ≡ length (drop base (waiting_of s)) → 0 < count → (waiting_at + item_row * base + 12 * count ≤ length s) × (items_at + item_row * first + 12 * count ≤ length s)
+take_inside s base first count long room size h =
     let l = length_waiting s in
     let m = cap_lim (word s waiting_count) waiting_limit in
     let d = length-drop base (waiting_of s) in
     (omega arith, omega arith)
-
-pub moved_as : (s u : List ℕ) (base first count a b c : ℕ) → a ≡ base → b ≡ first → c ≡ count → u ≡ splice s (items_at + item_row * b) (run s (waiting_at + item_row * a) (12 * c)) → u ≡ splice s (items_at + item_row * first) (run s (waiting_at + item_row * base) (12 * count))
-moved_as s u base first count a b c p q r e = rw (p, q, r) at e
 
 -- ---- one step for another that does the same
 -- an expression by a row that says the same in the store

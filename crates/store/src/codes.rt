@@ -1,14 +1,12 @@
-// How an expression and an item lie in their rows: docs/STORE.md's sorts and tags.
+// How an expression lies in its row: docs/STORE.md's sorts. Each sort is written here and read back in decode.rt of rows,
+// a number in between, since a row is a word of bytes that anybody may write.
 ghost use Rattle.std.specs.Prelude.{◌≡◌, ◌≤◌, ◌*◌, ◌+◌};
 ghost use Rattle.rows.specs.Decoded.{ValidExpr};
-ghost use Rattle.store.specs.Codes.{Says, SaysItem};
+ghost use Rattle.store.specs.Codes.{Says};
 ghost use Rattle.module.specs.Literals.{Valid};
 
-use module::{
-    BindingValue, Expr, ExprId, Item, Literal, NameId, Pattern, TextId, bits_of, float_of,
-    integer_of, value_of,
-};
-use rows::{ItemRow, Row};
+use module::{Expr, ExprId, Literal, NameId, Pattern, bits_of, value_of};
+use rows::Row;
 
 // A number in two words, the higher first.
 fn halves(sort: u32, n: u64) -> Row
@@ -24,6 +22,7 @@ fn halves(sort: u32, n: u64) -> Row
     }
 }
 
+#[tactic(auto, using(crate::proofs::CodeLaws::float_says, crate::proofs::CodeLaws::integer_says), unfolding(layout::specs::Exprs::expr_of, rows::specs::Decoded::expr_with, crate::specs::Codes::sort_for, crate::specs::Codes::ranged, crate::specs::Codes::literal_sort, module::specs::Literals::literal_of))]
 fn literal_row(l: Literal) -> Row
     requires { Valid l }
     ensures { Says result (Expr.Literal l) }
@@ -53,6 +52,7 @@ fn literal_row(l: Literal) -> Row
 }
 
 // Without a pattern, with one, with one that ends in an ellipsis; each without and with a parameter.
+#[tactic(auto, unfolding(layout::specs::Exprs::expr_of, rows::specs::Decoded::expr_with, crate::specs::Codes::sort_for, crate::specs::Codes::ranged, crate::specs::Codes::lambda_sort, rows::specs::Decoded::pattern_with, module::specs::Ids::name_of))]
 fn lambda_row(x: Option<NameId>, p: Pattern, body: ExprId) -> Row
     ensures { Says result (Expr.Lambda x p body) }
 {
@@ -100,6 +100,7 @@ fn lambda_row(x: Option<NameId>, p: Pattern, body: ExprId) -> Row
     }
 }
 
+#[tactic(auto, unfolding(layout::specs::Exprs::expr_of, rows::specs::Decoded::expr_with, crate::specs::Codes::sort_for, crate::specs::Codes::ranged, crate::specs::Codes::select_sort, module::specs::Ids::expr_of))]
 fn select_row(set: ExprId, default: Option<ExprId>) -> Row
     ensures { Says result (Expr.Select set default) }
 {
@@ -119,6 +120,7 @@ fn select_row(set: ExprId, default: Option<ExprId>) -> Row
     }
 }
 
+#[tactic(auto, unfolding(layout::specs::Exprs::expr_of, rows::specs::Decoded::expr_with, crate::specs::Codes::sort_for, crate::specs::Codes::ranged))]
 fn set_row(is_rec: bool) -> Row
     ensures { Says result (Expr.AttrSet is_rec) }
 {
@@ -138,7 +140,8 @@ fn set_row(is_rec: bool) -> Row
     }
 }
 
-// The row of an expression with a pointer.
+// The row of an expression with a pointer. It is no `From`, which may not ask for a condition, as ValidExpr is.
+#[tactic(auto, unfolding(layout::specs::Exprs::expr_of, rows::specs::Decoded::expr_with, crate::specs::Codes::sort_for, crate::specs::Codes::ranged, rows::specs::Decoded::ValidExpr))]
 pub fn row_of(e: Expr) -> Row
     requires { ValidExpr e }
     ensures { Says result e }
@@ -225,80 +228,6 @@ pub fn row_of(e: Expr) -> Row
             a: 0,
             b: 0,
             c: 0,
-        },
-    }
-}
-
-// Without and with a name, each without and with a default.
-fn field_row(x: Option<NameId>, default: Option<ExprId>) -> ItemRow
-    ensures { SaysItem result (Item.Field x default) }
-{
-    match x {
-        None => match default {
-            None => ItemRow { tag: 2, a: 0, b: 0 },
-            Some(d) => ItemRow {
-                tag: 4,
-                a: 0,
-                b: d.0,
-            },
-        },
-        Some(n) => match default {
-            None => ItemRow {
-                tag: 3,
-                a: n.0,
-                b: 0,
-            },
-            Some(d) => ItemRow {
-                tag: 5,
-                a: n.0,
-                b: d.0,
-            },
-        },
-    }
-}
-
-fn static_row(x: NameId, v: BindingValue) -> ItemRow
-    ensures { SaysItem result (Item.Static x v) }
-{
-    match v {
-        BindingValue::Expr(e) => ItemRow {
-            tag: 6,
-            a: x.0,
-            b: e.0,
-        },
-        BindingValue::Inherit(e) => ItemRow {
-            tag: 7,
-            a: x.0,
-            b: e.0,
-        },
-        BindingValue::InheritFrom(e) => ItemRow {
-            tag: 8,
-            a: x.0,
-            b: e.0,
-        },
-    }
-}
-
-pub fn item_row(i: Item) -> ItemRow
-    ensures { SaysItem result i }
-{
-    match i {
-        Item::Child(e) => ItemRow {
-            tag: 0,
-            a: e.0,
-            b: 0,
-        },
-        Item::Text(t) => ItemRow {
-            tag: 1,
-            a: t.0,
-            b: 0,
-        },
-        Item::Field(x, default) => field_row(x, default),
-        Item::Static(x, v) => static_row(x, v),
-        Item::Dynamic(k, v) => ItemRow {
-            tag: 9,
-            a: k.0,
-            b: v.0,
         },
     }
 }

@@ -4,8 +4,5 @@ use mathlib.Core.Path.{◌∙◌}
 use native.Mathlib.Omega.{arith}
 use Rattle.store.proofs.names.put_lost.Goals as goal
 
-pub next-next-requires : goal.next-next-requires
-next-next-requires c = omega (arith, c.requires.1)
-
 pub returns : goal.returns
 returns c = lost_put _ _ _ _ _ _ c.requires.0 c.requires.1 (omega arith, (omega arith, (omega arith, tt))) (omega arith) c.put_pointer.ensures (c.put32.ensures ∙ rw c.next-next.ensures)
