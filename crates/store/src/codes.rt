@@ -1,5 +1,7 @@
 // How an expression lies in its row: docs/STORE.md's sorts. Each sort is written here and read back in decode.rt of rows,
 // a number in between, since a row is a word of bytes that anybody may write.
+#![tactic(auto, unfolding(layout::specs::Exprs::expr_of, rows::specs::Decoded::expr_with, rows::specs::Decoded::pattern_with, rows::specs::Decoded::ValidExpr, crate::specs::Codes::sort_for, crate::specs::Codes::literal_sort, crate::specs::Codes::lambda_sort, crate::specs::Codes::select_sort, crate::specs::Codes::ranged, module::specs::Literals::literal_of, module::specs::Ids::expr_of, module::specs::Ids::name_of))]
+
 ghost use Rattle.std.specs.Prelude.{◌≡◌, ◌≤◌, ◌*◌, ◌+◌};
 ghost use Rattle.rows.specs.Decoded.{ValidExpr};
 ghost use Rattle.store.specs.Codes.{Says};
@@ -22,7 +24,6 @@ fn halves(sort: u32, n: u64) -> Row
     }
 }
 
-#[tactic(auto, using(crate::proofs::CodeLaws::float_says, crate::proofs::CodeLaws::integer_says), unfolding(layout::specs::Exprs::expr_of, rows::specs::Decoded::expr_with, crate::specs::Codes::sort_for, crate::specs::Codes::ranged, crate::specs::Codes::literal_sort, module::specs::Literals::literal_of))]
 fn literal_row(l: Literal) -> Row
     requires { Valid l }
     ensures { Says result (Expr.Literal l) }
@@ -52,7 +53,6 @@ fn literal_row(l: Literal) -> Row
 }
 
 // Without a pattern, with one, with one that ends in an ellipsis; each without and with a parameter.
-#[tactic(auto, unfolding(layout::specs::Exprs::expr_of, rows::specs::Decoded::expr_with, crate::specs::Codes::sort_for, crate::specs::Codes::ranged, crate::specs::Codes::lambda_sort, rows::specs::Decoded::pattern_with, module::specs::Ids::name_of))]
 fn lambda_row(x: Option<NameId>, p: Pattern, body: ExprId) -> Row
     ensures { Says result (Expr.Lambda x p body) }
 {
@@ -100,7 +100,6 @@ fn lambda_row(x: Option<NameId>, p: Pattern, body: ExprId) -> Row
     }
 }
 
-#[tactic(auto, unfolding(layout::specs::Exprs::expr_of, rows::specs::Decoded::expr_with, crate::specs::Codes::sort_for, crate::specs::Codes::ranged, crate::specs::Codes::select_sort, module::specs::Ids::expr_of))]
 fn select_row(set: ExprId, default: Option<ExprId>) -> Row
     ensures { Says result (Expr.Select set default) }
 {
@@ -120,7 +119,6 @@ fn select_row(set: ExprId, default: Option<ExprId>) -> Row
     }
 }
 
-#[tactic(auto, unfolding(layout::specs::Exprs::expr_of, rows::specs::Decoded::expr_with, crate::specs::Codes::sort_for, crate::specs::Codes::ranged))]
 fn set_row(is_rec: bool) -> Row
     ensures { Says result (Expr.AttrSet is_rec) }
 {
@@ -141,7 +139,6 @@ fn set_row(is_rec: bool) -> Row
 }
 
 // The row of an expression with a pointer. It is no `From`, which may not ask for a condition, as ValidExpr is.
-#[tactic(auto, unfolding(layout::specs::Exprs::expr_of, rows::specs::Decoded::expr_with, crate::specs::Codes::sort_for, crate::specs::Codes::ranged, rows::specs::Decoded::ValidExpr))]
 pub fn row_of(e: Expr) -> Row
     requires { ValidExpr e }
     ensures { Says result e }

@@ -33,7 +33,7 @@ pub fn waiting_count(store: &[u8]) -> u32
 }
 
 // One more item waits.
-#[tactic(auto, using(crate::proofs::ExprLaws::item_pushed_lem, crate::proofs::ExprLaws::item_unpushed, module::proofs::CounterLaws::room_left, module::proofs::CounterLaws::room_gone))]
+#[tactic(auto, using(crate::proofs::ExprLaws::item_unpushed, module::proofs::CounterLaws::room_left, module::proofs::CounterLaws::room_gone))]
 pub fn push_item(store: &mut [u8], i: Item)
     requires { Long store.old }
     ensures { Did (push_item (item_with (text_in store.old) i)) store.old tt store.new }
@@ -52,17 +52,16 @@ pub fn push_item(store: &mut [u8], i: Item)
 }
 
 // How many wait from `base` on.
-#[tactic(auto, using(crate::proofs::ExprLaws::from_some, crate::proofs::ExprLaws::from_none))]
+#[tactic(auto, using(crate::proofs::ExprLaws::waiting_left, crate::proofs::ExprLaws::waiting_within))]
 fn waiting_from(store: &[u8], base: u32) -> u32
     requires { Long store.now }
     ensures { (result ≡ length (drop base (waiting_of store.now))) × (result ≤ waiting_limit) }
 {
-    let n = waiting_count(store);
-    if base < n { n - base } else { 0 }
+    waiting_count(store).saturating_sub(base)
 }
 
 // The items that wait from `base` on are put in use.
-#[tactic(auto, using(crate::proofs::ExprLaws::took_some, crate::proofs::ExprLaws::took_none, crate::proofs::ExprLaws::take_inside))]
+#[tactic(auto, using(crate::proofs::ExprLaws::took_none))]
 fn take_items(store: &mut [u8], base: u32, count: u32, first: u32)
     requires { Long store.old × (first + count ≤ item_limit) × (count ≡ length (drop base (waiting_of store.old))) }
     ensures { Took base count first store.old store.new }
@@ -96,7 +95,7 @@ fn put_row(store: &mut [u8], count: Counter, end: u32, row: Row, p: Pointer)
 }
 
 // An expression whose items are those that wait from `base` on.
-#[tactic(auto, using(crate::proofs::ExprLaws::did_where, crate::proofs::ExprLaws::row_full, crate::proofs::ExprLaws::row_crowded, crate::proofs::ExprLaws::row_allocated, module::proofs::CounterLaws::room_left, module::proofs::CounterLaws::room_gone))]
+#[tactic(auto, using(crate::proofs::ExprLaws::did_where, crate::proofs::ExprLaws::row_full, module::proofs::CounterLaws::room_left, module::proofs::CounterLaws::room_gone))]
 fn alloc_row(store: &mut [u8], row: Row, base: u32, p: Pointer) -> ExprId
     requires { Long store.old × (fields_coded store.old row.sort row.a row.b ≡ true) }
     ensures { Takes row.sort (row_made store.old row (pointer_of p)) base store.old result.0 store.new }
@@ -116,7 +115,6 @@ fn alloc_row(store: &mut [u8], row: Row, base: u32, p: Pointer) -> ExprId
 }
 
 // alloc_expr: an expression with a pointer, whose items are those that wait from `base` on.
-#[tactic(auto, using(crate::proofs::ExprLaws::expr_allocated))]
 pub fn alloc_expr(store: &mut [u8], e: Expr, base: u32, p: Pointer) -> ExprId
     requires { Long store.old × ValidExpr e }
     ensures { Takes (sort_for e) (expr_made store.old e (pointer_of p)) base store.old result.0 store.new }
@@ -126,7 +124,7 @@ pub fn alloc_expr(store: &mut [u8], e: Expr, base: u32, p: Pointer) -> ExprId
 }
 
 // "Missing without a pointer": it has no items, and leaves those that wait.
-#[tactic(auto, using(crate::proofs::ExprLaws::missing_allocated), unfolding(soundness::specs::Coded::fields_coded))]
+#[tactic(auto, unfolding(soundness::specs::Coded::fields_coded))]
 pub fn alloc_missing(store: &mut [u8]) -> ExprId
     requires { Long store.old }
     ensures { Did (take_lone hole_made) store.old result.0 store.new }
@@ -146,7 +144,7 @@ pub fn alloc_missing(store: &mut [u8]) -> ExprId
 }
 
 // The expression e, if it is a Reference, has another text.
-#[tactic(auto, using(rows::proofs::ReferenceLaws::exprs_cap, crate::proofs::TextChangeLaws::no_expr, crate::proofs::TextChangeLaws::no_reference, crate::proofs::TextChangeLaws::reworded))]
+#[tactic(auto, using(rows::proofs::ReferenceLaws::exprs_cap, crate::proofs::TextChangeLaws::no_expr))]
 pub fn set_reference_text(store: &mut [u8], e: ExprId, t: TextId)
     requires { Long store.old }
     ensures { Reworded e.0 t.0 store.old store.new }

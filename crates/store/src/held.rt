@@ -17,32 +17,28 @@ fn has_text(sort: u32) -> bool
     sort == 6 || sort == 7 || sort == 21
 }
 
-#[tactic(auto, using(crate::proofs::HeldLaws::row_held, crate::proofs::HeldLaws::row_itself))]
+#[tactic(auto, using(crate::proofs::HeldLaws::row_itself))]
 pub fn held_row(store: &[u8], row: Row) -> Row
     requires { Long store.now }
     ensures { HeldRow row store.now result }
 {
     if has_text(row.sort) {
         return Row {
-            sort: row.sort,
             a: held_text(store, row.a),
-            b: row.b,
-            c: row.c,
+            ..row
         };
     }
     row
 }
 
-#[tactic(auto, using(crate::proofs::HeldLaws::item_held, crate::proofs::HeldLaws::item_itself))]
 pub fn held_item(store: &[u8], row: ItemRow) -> ItemRow
     requires { Long store.now }
     ensures { HeldItem row store.now result }
 {
     if row.tag == TEXT_PART {
         return ItemRow {
-            tag: row.tag,
             a: held_text(store, row.a),
-            b: row.b,
+            ..row
         };
     }
     row

@@ -19,7 +19,7 @@ use texts::held_text;
 use words::put32;
 
 // A name with a text that lies within the bytes in use.
-#[tactic(auto, using(crate::proofs::NameLaws::name_put, crate::proofs::NameLaws::name_full, module::proofs::CounterLaws::room_left, module::proofs::CounterLaws::room_gone))]
+#[tactic(auto, using(crate::proofs::NameLaws::name_full, module::proofs::CounterLaws::room_left, module::proofs::CounterLaws::room_gone))]
 fn append_name(store: &mut [u8], text: u32, kind: NameKind, p: Pointer) -> NameId
     requires { Long store.old × (text_fits store.old text ≡ true) }
     ensures { Did (put_name (name_with (text_in store.old text) (kind_of kind) (pointer_of p))) store.old result.0 store.new }
@@ -73,7 +73,7 @@ fn put_lost(store: &mut [u8], count: Counter, p: Pointer)
 }
 
 // LowerDiagnostic::DuplicateKey, and its first pointer in the lost list.
-#[tactic(auto, using(crate::proofs::NameLaws::duplicate_put, crate::proofs::NameLaws::duplicate_full, module::proofs::CounterLaws::room_left, module::proofs::CounterLaws::room_gone))]
+#[tactic(auto, using(crate::proofs::NameLaws::duplicate_full, module::proofs::CounterLaws::room_left, module::proofs::CounterLaws::room_gone))]
 pub fn add_duplicate(store: &mut [u8], key: TextId, first: Pointer, second: Pointer)
     requires { Long store.old }
     ensures { Did (put_duplicate (text_in store.old key.0) (pointer_of first) (pointer_of second)) store.old tt store.new }
@@ -90,7 +90,7 @@ pub fn add_duplicate(store: &mut [u8], key: TextId, first: Pointer, second: Poin
 }
 
 // The name x has another text.
-#[tactic(auto, using(crate::proofs::TextChangeLaws::names_cap, crate::proofs::TextChangeLaws::no_name, crate::proofs::TextChangeLaws::renamed))]
+#[tactic(auto, using(crate::proofs::TextChangeLaws::names_cap, crate::proofs::TextChangeLaws::no_name))]
 pub fn set_name_text(store: &mut [u8], x: NameId, t: TextId)
     requires { Long store.old }
     ensures { Renamed x.0 t.0 store.old store.new }
