@@ -45,25 +45,23 @@ pub missing_read : (r : Row) → r.sort ≤ 1 → Reads r expr.Missing
 unfolding expr_of expr_with ValidExpr
 missing_read r h = record { valid = tt; same = λ s is. rw (le-leb r.sort 1 h) }
 
-module _ (r : Row) (v : ℕ) (is_wide : v ≡ wide r.a r.b) where
-  module _ (sort : r.sort ≡ 4) where
-    pub float_read : (x : Float) → v ≤ 9218868437227405312 → float_bits x ≡ v → Reads r (expr.Literal (code.Float x))
-    unfolding expr_of expr_with literal_of float_or ValidExpr Valid Unsigned
-    float_read x h e = record { valid = omega arith; same = λ s is. rw (sort, ← is_wide, le-leb v 9218868437227405312 h, e) }
+module _ (r : Row) where
+  pub float_read : (x : Float) → r.sort ≡ 4 → float_bits x ≡ wide r.a r.b → float_bits x ≤ 9218868437227405312 → Reads r (expr.Literal (code.Float x))
+  unfolding expr_of expr_with literal_of float_or ValidExpr Valid Unsigned
+  float_read x sort e h = record { valid = h; same = λ s is. rw (sort, ← e, le-leb (float_bits x) 9218868437227405312 h) }
 
-    pub float_unread : 9218868437227405312 < v → Reads r expr.Missing
-    unfolding expr_of expr_with float_or ValidExpr
-    float_unread h = record { valid = tt; same = λ s is. rw (sort, ← is_wide, lt-leb v 9218868437227405312 h) }
+  pub float_unread : r.sort ≡ 4 → 9218868437227405312 < wide r.a r.b → Reads r expr.Missing
+  unfolding expr_of expr_with float_or ValidExpr
+  float_unread sort h = record { valid = tt; same = λ s is. rw (sort, lt-leb (wide r.a r.b) 9218868437227405312 h) }
 
-  module _ (sort : r.sort ≡ 5) where
-    -- the code has the integer by its bits
-    pub integer_read : (n m : ℤ) → v ≤ 9223372036854775807 → nat_of n ≡ v → NotNegative n → m ≡ to_z w64 (of_z w64 n) → Reads r (expr.Literal (code.Integer m))
-    unfolding expr_of expr_with literal_of integer_or ValidExpr Valid
-    integer_read n m h e p q = rw (q, integer_back n p) (record { valid = p; same = λ s is. rw (sort, ← is_wide, le-leb v 9223372036854775807 h, e) })
+  -- the code has the integer by its bits
+  pub integer_read : (n : ℤ) → r.sort ≡ 5 → nat_of n ≡ wide r.a r.b → nat_of n ≤ 9223372036854775807 → NotNegative n → Reads r (expr.Literal (code.Integer (to_z w64 (of_z w64 n))))
+  unfolding expr_of expr_with literal_of integer_or ValidExpr Valid
+  integer_read n sort e h p = rw (integer_back n p) (record { valid = p; same = λ s is. rw (sort, ← e, le-leb (nat_of n) 9223372036854775807 h) })
 
-    pub integer_unread : 9223372036854775807 < v → Reads r expr.Missing
-    unfolding expr_of expr_with integer_or ValidExpr
-    integer_unread h = record { valid = tt; same = λ s is. rw (sort, ← is_wide, lt-leb v 9223372036854775807 h) }
+  pub integer_unread : r.sort ≡ 5 → 9223372036854775807 < wide r.a r.b → Reads r expr.Missing
+  unfolding expr_of expr_with integer_or ValidExpr
+  integer_unread sort h = record { valid = tt; same = λ s is. rw (sort, lt-leb (wide r.a r.b) 9223372036854775807 h) }
 
 -- ---- the arm that takes the rest
 -- n is none of the m numbers from k on, as the code's match says it
@@ -183,10 +181,10 @@ module _ (s : List ℕ) (n e : ℕ) (size : n ≡ length (exprs_of s)) where
   unfolding items_at_expr
   items_out h = rw (le-ltb e (length (exprs_of s)) (omega arith))
 
-  pub expr_in : (w : ℕ) (r : Row) (x : Expr) → e < n → w ≡ e → r.sort ≡ word s (exprs_at + expr_row * w + 4) → r.a ≡ word s (exprs_at + expr_row * w + 8) → r.b ≡ word s (exprs_at + expr_row * w + 12) → r.c ≡ word s (exprs_at + expr_row * w + 16)
+  pub expr_in : (r : Row) (x : Expr) → e < n → r.sort ≡ word s (exprs_at + expr_row * e + 4) → r.a ≡ word s (exprs_at + expr_row * e + 8) → r.b ≡ word s (exprs_at + expr_row * e + 12) → r.c ≡ word s (exprs_at + expr_row * e + 16)
       → Reads r x → (expr_with (text_in s) x (items_at_expr s e) ≡ expr_at (module_in s) e) × ValidExpr x
   unfolding expr_at made_in sort_of
-  expr_in w r x h q k a b c read = (rw (expr_at, made_in_lem h, items_in_lem h, read.same s (items_of s e), k, a, b, c, q), read.valid)
+  expr_in r x h k a b c read = (rw (expr_at, made_in_lem h, items_in_lem h, read.same s (items_of s e), k, a, b, c), read.valid)
 
   pub expr_out : n ≤ e → (expr_with (text_in s) expr.Missing (items_at_expr s e) ≡ expr_at (module_in s) e) × ValidExpr expr.Missing
   unfolding expr_at expr_with ValidExpr
@@ -195,24 +193,24 @@ module _ (s : List ℕ) (n e : ℕ) (size : n ≡ length (exprs_of s)) where
   pub pointer_out : n ≤ e → none ≡ (made_at (module_in s) e).pointer
   pointer_out h = rw (made_out h)
 
-  pub pointer_none : (w v : ℕ) → e < n → w ≡ e → v ≡ word s (exprs_at + expr_row * w + 4) → v ≡ 0 → none ≡ (made_at (module_in s) e).pointer
+  pub pointer_none : (v : ℕ) → e < n → v ≡ word s (exprs_at + expr_row * e + 4) → v ≡ 0 → none ≡ (made_at (module_in s) e).pointer
   unfolding made_in sort_of pointer_or
-  pointer_none w v h q a z = rw (made_in_lem h, ← q, ← a, z)
+  pointer_none v h a z = rw (made_in_lem h, ← a, z)
 
-  pub pointer_some : (w u v : ℕ) (p : code_pointer.Pointer) → e < n → w ≡ e → u ≡ e → v ≡ word s (exprs_at + expr_row * w + 4) → (v ≡ 0 → ⊥) → pointer_of p ≡ pointer_at s (expr_pointers_at + pointer_row * u) → some (pointer_of p) ≡ (made_at (module_in s) e).pointer
+  pub pointer_some : (v : ℕ) (p : code_pointer.Pointer) → e < n → v ≡ word s (exprs_at + expr_row * e + 4) → (v ≡ 0 → ⊥) → pointer_of p ≡ pointer_at s (expr_pointers_at + pointer_row * e) → some (pointer_of p) ≡ (made_at (module_in s) e).pointer
   unfolding made_in sort_of pointer_or
-  pointer_some w u v p h q k a z x = rw (made_in_lem h, x, k, ← q, ← a, ne_eqb v 0 z)
+  pointer_some v p h a z x = rw (made_in_lem h, x, ← a, ne_eqb v 0 z)
 
   pub items_none : n ≤ e → Covers s e (record { first = 0; count = 0 })
   unfolding rows_to
   items_none h = record { few = omega arith; same = items_out h }
 
-  module _ (w u v first end : ℕ) (h : e < n) (q : w ≡ e) (a : u ≡ word s (exprs_at + expr_row * w)) (b : v ≡ word s (exprs_at + expr_row * w + 20)) (c : first ≡ cap u item_limit) (d : end ≡ cap v item_limit) where
+  module _ (u v first end : ℕ) (h : e < n) (a : u ≡ word s (exprs_at + expr_row * e)) (b : v ≡ word s (exprs_at + expr_row * e + 20)) (c : first ≡ cap u item_limit) (d : end ≡ cap v item_limit) where
     items_are : items_at_expr s e ≡ rows_to (λ k. item_in s (first + k)) (end - first)
     unfolding items_of rows_from first_item
     items_are =
-        let p : exprs_at + expr_row * (e + 1) ≡ exprs_at + expr_row * w + 20 = omega arith in
-        rw (items_in_lem h, p, ← b, ← d, ← q, ← a, ← c)
+        let p : exprs_at + expr_row * (e + 1) ≡ exprs_at + expr_row * e + 20 = omega arith in
+        rw (items_in_lem h, p, ← b, ← d, ← a, ← c)
 
     pub items_few : end ≤ first → Covers s e (record { first = first; count = 0 })
     items_few l = let z : end - first ≡ 0 = omega arith in record { few = omega (arith, cap_lim u item_limit); same = rw z at items_are }
@@ -224,9 +222,9 @@ pub covers_count : (s : List ℕ) (e : ℕ) (x : Items) → Covers s e x → (x.
 covers_count s e x h = (rw (h.same, length_rows (λ k. item_in s (x.first + k)) x.count), omega (arith, h.few))
 
 module _ (s : List ℕ) (e i : ℕ) (x : Items) (covers : Covers s e x) where
-  pub item_in_lem : (w : ℕ) (y : Item) → i < x.count → w ≡ x.first + i → y ≡ item_at s (items_at + item_row * w) → y ≡ item_at_expr s e i
+  pub item_in_lem : (y : Item) → i < x.count → y ≡ item_at s (items_at + item_row * (x.first + i)) → y ≡ item_at_expr s e i
   unfolding item_at_expr item_in
-  item_in_lem w y h q a = rw (covers.same, get_d_rows (λ k. item_in s (x.first + k)) x.count i (child 0) h, a, q)
+  item_in_lem y h a = rw (covers.same, get_d_rows (λ k. item_in s (x.first + k)) x.count i (child 0) h, a)
 
   pub item_out : x.count ≤ i → child 0 ≡ item_at_expr s e i
   unfolding item_at_expr
@@ -242,20 +240,20 @@ module _ (s : List ℕ) (n x : ℕ) (size : n ≡ length (names_of s)) where
   unfolding module_in module_of state_of names_of name_at
   name_out h = lacked (name_in s) (cap (word s name_count) name_limit) n x (record { text = []; kind = spec.PlainAttrset; pointer = record { kind = 0; from = 0; to = 0 } }) size h
 
-  pub name_text_in : (w t : ℕ) → x < n → w ≡ x → t ≡ word s (names_at + name_row * w) → text_in s t ≡ (name_at (module_in s) x).text
+  pub name_text_in : (t : ℕ) → x < n → t ≡ word s (names_at + name_row * x) → text_in s t ≡ (name_at (module_in s) x).text
   unfolding name_in
-  name_text_in w t h q a = rw (name_in_lem h, a, q)
+  name_text_in t h a = rw (name_in_lem h, a)
 
   pub name_text_out : n ≤ x → text_in s absent ≡ (name_at (module_in s) x).text
   name_text_out h = rw (name_out h, text_absent s)
 
-  pub name_kind_in : (w v : ℕ) (k : NameKind) → x < n → w ≡ x → v ≡ word s (names_at + name_row * w + 4) → k ≡ kind_of_number v → kind_of k ≡ (name_at (module_in s) x).kind
+  pub name_kind_in : (v : ℕ) (k : NameKind) → x < n → v ≡ word s (names_at + name_row * x + 4) → k ≡ kind_of_number v → kind_of k ≡ (name_at (module_in s) x).kind
   unfolding name_in name_kind_of
-  name_kind_in w v k h q a b = rw (name_in_lem h, b, a, q)
+  name_kind_in v k h a b = rw (name_in_lem h, b, a)
 
-  pub name_pointer_in : (w : ℕ) (p : spec.Pointer) → x < n → w ≡ x → p ≡ pointer_at s (name_pointers_at + pointer_row * w) → p ≡ (name_at (module_in s) x).pointer
+  pub name_pointer_in : (p : spec.Pointer) → x < n → p ≡ pointer_at s (name_pointers_at + pointer_row * x) → p ≡ (name_at (module_in s) x).pointer
   unfolding name_in
-  name_pointer_in w p h q a = rw (name_in_lem h, a, q)
+  name_pointer_in p h a = rw (name_in_lem h, a)
 
 -- ---- diagnostics and the lost list
 module _ (s : List ℕ) (n i : ℕ) where
@@ -264,29 +262,22 @@ module _ (s : List ℕ) (n i : ℕ) where
     unfolding module_in module_of state_of diagnostics_of diagnostic_at
     diagnostic_in_lem h = got (diagnostic_in s) (cap (word s diagnostic_count) diagnostic_limit) n i (record { key = []; first = nowhere; second = nowhere }) size h
 
-    pub diagnostic_out : n ≤ i → diagnostic_at (module_in s) i ≡ record { key = []; first = nowhere; second = nowhere }
+    diagnostic_out : n ≤ i → diagnostic_at (module_in s) i ≡ record { key = []; first = nowhere; second = nowhere }
     unfolding module_in module_of state_of diagnostics_of diagnostic_at
     diagnostic_out h = lacked (diagnostic_in s) (cap (word s diagnostic_count) diagnostic_limit) n i (record { key = []; first = nowhere; second = nowhere }) size h
 
-    pub key_in_lem : (w t : ℕ) → i < n → w ≡ i → t ≡ word s (diagnostics_at + diagnostic_row * w) → text_in s t ≡ (diagnostic_at (module_in s) i).key
+    pub diagnostic_read : (t : ℕ) (p q : spec.Pointer) → i < n → t ≡ word s (diagnostics_at + diagnostic_row * i) → p ≡ pointer_at s (diagnostics_at + diagnostic_row * i + 4) → q ≡ pointer_at s (diagnostics_at + diagnostic_row * i + 16)
+        → record { key = text_in s t; first = p; second = q } ≡ diagnostic_at (module_in s) i
     unfolding diagnostic_in
-    key_in_lem w t h q a = rw (diagnostic_in_lem h, a, q)
+    diagnostic_read t p q h a b c = rw (diagnostic_in_lem h, a, b, c)
 
-    pub key_out : n ≤ i → text_in s absent ≡ (diagnostic_at (module_in s) i).key
-    key_out h = rw (diagnostic_out h, text_absent s)
-
-    pub first_in : (w : ℕ) (p : spec.Pointer) → i < n → w ≡ i → p ≡ pointer_at s (diagnostics_at + diagnostic_row * w + 4) → p ≡ (diagnostic_at (module_in s) i).first
-    unfolding diagnostic_in
-    first_in w p h q a = rw (diagnostic_in_lem h, a, q)
-
-    pub second_in : (w : ℕ) (p : spec.Pointer) → i < n → w ≡ i → p ≡ pointer_at s (diagnostics_at + diagnostic_row * w + 16) → p ≡ (diagnostic_at (module_in s) i).second
-    unfolding diagnostic_in
-    second_in w p h q a = rw (diagnostic_in_lem h, a, q)
+    pub diagnostic_unread : n ≤ i → record { key = text_in s absent; first = nowhere; second = nowhere } ≡ diagnostic_at (module_in s) i
+    diagnostic_unread h = rw (diagnostic_out h, text_absent s)
 
   module _ (size : n ≡ length (lost_of s)) where
-    pub lost_in : (w : ℕ) (p : spec.Pointer) → i < n → w ≡ i → p ≡ pointer_at s (lost_at + pointer_row * w) → p ≡ lost_pointer_at (module_in s) i
+    pub lost_in : (p : spec.Pointer) → i < n → p ≡ pointer_at s (lost_at + pointer_row * i) → p ≡ lost_pointer_at (module_in s) i
     unfolding module_in module_of state_of lost_of lost_pointer_at
-    lost_in w p h q a = rw (got (λ k. pointer_at s (lost_at + pointer_row * k)) (cap (word s lost_count) diagnostic_limit) n i nowhere size h, a, q)
+    lost_in p h a = rw (got (λ k. pointer_at s (lost_at + pointer_row * k)) (cap (word s lost_count) diagnostic_limit) n i nowhere size h, a)
 
     pub lost_out : n ≤ i → nowhere ≡ lost_pointer_at (module_in s) i
     unfolding module_in module_of state_of lost_of lost_pointer_at

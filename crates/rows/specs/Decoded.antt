@@ -1,5 +1,5 @@
 -- What the code's expressions and items are in the definitions, and when one is what a row says.
-use Rattle.std.specs.Prelude.{◌≡◌, true, false, List, ℕ}
+use Rattle.std.specs.Prelude.{◌≡◌, true, false, List, ℕ, leb}
 use Rattle.std.proofs.Math.Option.{Option, none}
 use Rattle.spec.specs.Basics.{Text}
 use Rattle.spec.specs.Module.{missing, apply, if_then_else, literal, lambda, let_in, list, bin_op, attr_set, unary_op, reference, select, has_attr, with_in, assert_in, string_interpolation, path_interpolation, Pat}
@@ -77,3 +77,8 @@ pub record Reads (r : Row) (e : Expr) : Type 0 where
 
 pub record ReadsItem (r : ItemRow) (i : Item) : Type 0 where
   pub same : (s : List ℕ) → item_with (text_in s) i ≡ rows.item_of s r.tag r.a r.b
+
+-- the row says what the item is, in any store
+pub record SaysItem (r : ItemRow) (i : Item) : Type 0 where
+  pub same : (s : List ℕ) → rows.item_of s r.tag r.a r.b ≡ item_with (text_in s) i
+  pub in_range : leb r.tag 9 ≡ true

@@ -1,10 +1,11 @@
 -- What is read of a module in a store, and what a number out of range gives.
 use Rattle.std.specs.Prelude.{◌≡◌, List, [], ℕ, ◌+◌, ◌≤◌, length, get_or, ltb, if◌then◌else◌}
 use Rattle.std.proofs.Math.Option.{Option, none, some}
-use Rattle.spec.specs.Basics.{ExprId}
+use Rattle.spec.specs.Basics.{Text, ExprId}
 use Rattle.spec.specs.Module.{Pointer, DuplicateKey, Module}
 use Rattle.module.specs.Ids.{pointer_of}
 use Rattle.rows.specs.declared.read_exprs.Items.{Items}
+use Rattle.rows.specs.declared.read_diagnostics.Diagnostic.{Diagnostic}
 use Rattle.layout.specs.Layout.{item_limit}
 use Rattle.layout.specs.Rows.{rows_to}
 use Rattle.layout.specs.Exprs.{Item, child, item_in, items_of}
@@ -32,6 +33,10 @@ pub record Covers (s : List ℕ) (e : ExprId) (x : Items) : Type 0 where
 -- ---- diagnostics and the lost list
 unfoldable pub nowhere : Pointer
 nowhere = record { kind = 0; from = 0; to = 0 }
+
+-- a diagnostic as it is read; its text by its number
+unfoldable pub diagnostic_with : (ℕ → Text) → Diagnostic → DuplicateKey
+diagnostic_with texts d = record { key = texts d.key.0; first = pointer_of d.first; second = pointer_of d.second }
 
 unfoldable pub diagnostic_at : Module → ℕ → DuplicateKey
 diagnostic_at m i = get_or m.diagnostics i (record { key = []; first = nowhere; second = nowhere })

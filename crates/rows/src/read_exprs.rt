@@ -9,11 +9,10 @@ ghost use Rattle.layout.specs.States.{module_in};
 ghost use Rattle.rows.specs.Decoded.{expr_with, item_with, ValidExpr};
 ghost use Rattle.rows.specs.Readers.{items_at_expr, item_at_expr, maybe_pointer_of, Covers};
 
-use crate::decode::{expr_of, item_of};
 use crate::read_counts::expr_count;
 use crate::row::{ItemRow, Row};
 use layout::tables::{EXPR_POINTERS, EXPR_ROW, EXPRS, ITEM_LIMIT, ITEM_ROW, ITEMS, POINTER_ROW};
-use layout::{at_most, get_pointer, wide};
+use layout::{at_most, get_pointer};
 use module::{Expr, ExprId, Item, Pointer, TextId};
 use words::get32;
 
@@ -28,6 +27,7 @@ pub struct Items {
 }
 
 // The expression but for its items; out of range it is Missing, as in the definitions.
+#[tactic(auto, using(crate::proofs::ReadLaws::expr_in, crate::proofs::ReadLaws::expr_out))]
 pub fn read_expr(store: &[u8], e: ExprId) -> Expr
     requires { Long store.now }
     ensures { (expr_with (text_in store.now) result (items_at_expr store.now e.0) ≡ expr_at (module_in store.now) e.0) × ValidExpr result }
@@ -36,8 +36,8 @@ pub fn read_expr(store: &[u8], e: ExprId) -> Expr
     if expr_count(store) <= n {
         return Expr::Missing;
     }
-    let at = EXPRS + EXPR_ROW * wide(n);
-    expr_of(Row {
+    let at = EXPRS + EXPR_ROW * n as usize;
+    Expr::from(Row {
         sort: get32(store, at + 4),
         a: get32(store, at + 8),
         b: get32(store, at + 12),
@@ -45,6 +45,7 @@ pub fn read_expr(store: &[u8], e: ExprId) -> Expr
     })
 }
 
+#[tactic(auto, using(crate::proofs::ReadLaws::pointer_out, crate::proofs::ReadLaws::pointer_none, crate::proofs::ReadLaws::pointer_some), unfolding(crate::specs::Readers::maybe_pointer_of))]
 pub fn expr_pointer(store: &[u8], e: ExprId) -> Option<Pointer>
     requires { Long store.now }
     ensures { maybe_pointer_of result ≡ (made_at (module_in store.now) e.0).pointer }
@@ -53,13 +54,14 @@ pub fn expr_pointer(store: &[u8], e: ExprId) -> Option<Pointer>
     if expr_count(store) <= n {
         return None;
     }
-    if get32(store, EXPRS + EXPR_ROW * wide(n) + 4) == 0 {
+    if get32(store, EXPRS + EXPR_ROW * n as usize + 4) == 0 {
         return None;
     }
-    Some(get_pointer(store, EXPR_POINTERS + POINTER_ROW * wide(n)))
+    Some(get_pointer(store, EXPR_POINTERS + POINTER_ROW * n as usize))
 }
 
 // The text of a Reference; none of an expression that is no Reference.
+#[tactic(auto, using(crate::proofs::ReferenceLaws::exprs_cap, crate::proofs::ReferenceLaws::text_past, crate::proofs::ReferenceLaws::text_other, crate::proofs::ReferenceLaws::text_there), unfolding(layout::specs::Texts::maybe_text))]
 pub fn reference_text(store: &[u8], e: ExprId) -> Option<TextId>
     requires { Long store.now }
     ensures { maybe_text store.now result ≡ reference_text (expr_at (module_in store.now) e.0) }
@@ -68,13 +70,14 @@ pub fn reference_text(store: &[u8], e: ExprId) -> Option<TextId>
     if expr_count(store) <= n {
         return None;
     }
-    if get32(store, EXPRS + EXPR_ROW * wide(n) + 4) != REFERENCE {
+    if get32(store, EXPRS + EXPR_ROW * n as usize + 4) != REFERENCE {
         return None;
     }
-    Some(TextId(get32(store, EXPRS + EXPR_ROW * wide(n) + 8)))
+    Some(TextId(get32(store, EXPRS + EXPR_ROW * n as usize + 8)))
 }
 
 // They end where those of the next row begin.
+#[tactic(auto, using(crate::proofs::ReadLaws::items_none, crate::proofs::ReadLaws::items_few, crate::proofs::ReadLaws::items_some))]
 fn items_of(store: &[u8], e: ExprId) -> Items
     requires { Long store.now }
     ensures { Covers store.now e.0 result }
@@ -83,7 +86,7 @@ fn items_of(store: &[u8], e: ExprId) -> Items
     if expr_count(store) <= n {
         return Items { first: 0, count: 0 };
     }
-    let at = EXPRS + EXPR_ROW * wide(n);
+    let at = EXPRS + EXPR_ROW * n as usize;
     let first = at_most(get32(store, at), ITEM_LIMIT);
     let end = at_most(get32(store, at + EXPR_ROW), ITEM_LIMIT);
     if end <= first {
@@ -95,6 +98,7 @@ fn items_of(store: &[u8], e: ExprId) -> Items
     }
 }
 
+#[tactic(auto, using(crate::proofs::ReadLaws::covers_count))]
 pub fn item_count(store: &[u8], e: ExprId) -> u32
     requires { Long store.now }
     ensures { (result ≡ length (items_at_expr store.now e.0)) × (result ≤ item_limit) }
@@ -103,11 +107,12 @@ pub fn item_count(store: &[u8], e: ExprId) -> u32
 }
 
 // The item whose row is at `at`.
+#[tactic(auto, unfolding(layout::specs::Exprs::item_at))]
 fn get_item(store: &[u8], at: usize) -> Item
     requires { at + 12 ≤ length store.now }
     ensures { item_with (text_in store.now) result ≡ item_at store.now at }
 {
-    item_of(ItemRow {
+    Item::from(ItemRow {
         tag: get32(store, at),
         a: get32(store, at + 4),
         b: get32(store, at + 8),
@@ -115,6 +120,7 @@ fn get_item(store: &[u8], at: usize) -> Item
 }
 
 // Of an expression's items the one with the number i; out of range the child 0.
+#[tactic(auto, using(crate::proofs::ReadLaws::item_in_lem, crate::proofs::ReadLaws::item_out), unfolding(crate::specs::Decoded::item_with))]
 pub fn read_item(store: &[u8], e: ExprId, i: u32) -> Item
     requires { Long store.now }
     ensures { item_with (text_in store.now) result ≡ item_at_expr store.now e.0 i }
@@ -123,5 +129,5 @@ pub fn read_item(store: &[u8], e: ExprId, i: u32) -> Item
     if items.count <= i {
         return Item::Child(ExprId(0));
     }
-    get_item(store, ITEMS + ITEM_ROW * wide(items.first + i))
+    get_item(store, ITEMS + ITEM_ROW * (items.first + i) as usize)
 }

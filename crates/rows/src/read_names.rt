@@ -8,11 +8,12 @@ ghost use Rattle.layout.specs.Texts.{text_in};
 ghost use Rattle.layout.specs.States.{module_in};
 
 use crate::read_counts::name_count;
+use layout::get_pointer;
 use layout::tables::{ABSENT, NAME_POINTERS, NAME_ROW, NAMES, POINTER_ROW};
-use layout::{get_pointer, wide};
 use module::{NameId, NameKind, Pointer, TextId};
 use words::get32;
 
+#[tactic(auto, using(crate::proofs::ReadLaws::name_text_out, crate::proofs::ReadLaws::name_text_in))]
 pub fn name_text(store: &[u8], x: NameId) -> TextId
     requires { Long store.now }
     ensures { text_in store.now result.0 ≡ (name_at (module_in store.now) x.0).text }
@@ -21,9 +22,10 @@ pub fn name_text(store: &[u8], x: NameId) -> TextId
     if name_count(store) <= n {
         return TextId(ABSENT);
     }
-    TextId(get32(store, NAMES + NAME_ROW * wide(n)))
+    TextId(get32(store, NAMES + NAME_ROW * n as usize))
 }
 
+#[tactic(auto, using(crate::proofs::ReadLaws::name_out, crate::proofs::ReadLaws::name_kind_in), unfolding(module::specs::Kinds::kind_of))]
 pub fn name_kind_of(store: &[u8], x: NameId) -> NameKind
     requires { Long store.now }
     ensures { kind_of result ≡ (name_at (module_in store.now) x.0).kind }
@@ -32,20 +34,17 @@ pub fn name_kind_of(store: &[u8], x: NameId) -> NameKind
     if name_count(store) <= n {
         return NameKind::PlainAttrset;
     }
-    NameKind::from(get32(store, NAMES + NAME_ROW * wide(n) + 4))
+    NameKind::from(get32(store, NAMES + NAME_ROW * n as usize + 4))
 }
 
+#[tactic(auto, using(crate::proofs::ReadLaws::name_out, crate::proofs::ReadLaws::name_pointer_in), unfolding(module::specs::Ids::pointer_of))]
 pub fn name_pointer(store: &[u8], x: NameId) -> Pointer
     requires { Long store.now }
     ensures { pointer_of result ≡ (name_at (module_in store.now) x.0).pointer }
 {
     let n = x.0;
     if name_count(store) <= n {
-        return Pointer {
-            kind: 0,
-            from: 0,
-            to: 0,
-        };
+        return Pointer::default();
     }
-    get_pointer(store, NAME_POINTERS + POINTER_ROW * wide(n))
+    get_pointer(store, NAME_POINTERS + POINTER_ROW * n as usize)
 }

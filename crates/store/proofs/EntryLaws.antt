@@ -12,12 +12,13 @@ use Rattle.layout.proofs.Frames.{exprs_kept, names_kept, diagnostics_kept, lost_
 use Rattle.layout.proofs.WriteLaws.{still_set_word}
 use Rattle.store.specs.Work.{SetEntry}
 
-pub entry_set : (s t : List ℕ) (e : ℕ) → Long s → e < 2 ^ 32 → t ≡ set_word s entry_place e → SetEntry e s t
+pub entry_set : (s : List ℕ) (e : ℕ) → Long s → e < 2 ^ 32 → SetEntry e s (set_word s entry_place e)
 unfolding Outside module_in state_of
-entry_set s t e long h q =
-    let wrote : Wrote ((entry_place, entry_place + 4) ∷ []) s t = record { size = rw q (length_set_word s entry_place e); other = λ j o. rw q (word_set_word_other s entry_place e j o.0) } in
-    let still : Still s t = rw q (still_set_word s entry_place e (omega arith) (λ z. omega arith)) in
-    let w : word t entry_place ≡ e = rw q (word_set_word_same s entry_place e (omega arith) h) in
+entry_set s e long h =
+    let t : List ℕ = set_word s entry_place e in
+    let wrote : Wrote ((entry_place, entry_place + 4) ∷ []) s t = record { size = length_set_word s entry_place e; other = λ j o. word_set_word_other s entry_place e j o.0 } in
+    let still : Still s t = still_set_word s entry_place e (omega arith) (λ z. omega arith) in
+    let w : word t entry_place ≡ e = word_set_word_same s entry_place e (omega arith) h in
     record {
       wrote = wrote;
       still = still;

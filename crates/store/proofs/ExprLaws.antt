@@ -50,11 +50,11 @@ waiting_few s n e h = sym (length_waiting s ∙ rw (← e) (cap_le n waiting_lim
 pub waiting_counted : (s : List ℕ) (n r : ℕ) → n ≡ word s waiting_count → r ≡ cap n waiting_limit → r ≡ length (waiting_of s)
 waiting_counted s n r e c = c ∙ rw e (sym (length_waiting s))
 
-pub from_some : (s : List ℕ) (base n : ℕ) → n ≡ length (waiting_of s) → base < n → (n - base ≡ length (drop base (waiting_of s))) × (n - base ≤ waiting_limit)
-from_some s base n e h = (rw (length-drop base (waiting_of s)) (rw e), omega (arith, length_waiting s, cap_lim (word s waiting_count) waiting_limit))
+pub waiting_within : (s : List ℕ) → length (waiting_of s) ≤ waiting_limit
+waiting_within s = omega (arith, length_waiting s, cap_lim (word s waiting_count) waiting_limit)
 
-pub from_none : (s : List ℕ) (base n : ℕ) → n ≡ length (waiting_of s) → n ≤ base → (0 ≡ length (drop base (waiting_of s))) × (0 ≤ waiting_limit)
-from_none s base n e h = (rw (length-drop base (waiting_of s)) (omega arith), omega arith)
+pub waiting_left : (s : List ℕ) (base : ℕ) → length (drop base (waiting_of s)) ≡ length (waiting_of s) - base
+waiting_left s base = length-drop base (waiting_of s)
 
 -- ---- items that are put in use
 -- a row that was moved
@@ -124,35 +124,39 @@ took_none s base count first h e = record {
 }
 
 -- ---- a row that is put
-pub row_put : (s u v t : List ℕ) (n end : ℕ) (r : Row) (p : code.Pointer) (at to : ℕ) → Long s → n < expr_limit → end < 2 ^ 32 → Small (r.sort ∷ r.a ∷ r.b ∷ r.c ∷ []) → Small (p.kind ∷ p.from ∷ p.to ∷ []) → at ≡ exprs_at + expr_row * n + 4 → to ≡ expr_pointers_at + pointer_row * n
-    → u ≡ set_all s at (r.sort ∷ r.a ∷ r.b ∷ r.c ∷ end ∷ []) → v ≡ set_all u to (p.kind ∷ p.from ∷ p.to ∷ []) → t ≡ set_word v expr_count (n + 1) → PutRow n end r (pointer_of p) s t
+pub row_put : (s : List ℕ) (n end : ℕ) (r : Row) (p : code.Pointer) → Long s → n < expr_limit → end < 2 ^ 32 → r.sort < 2 ^ 32 → r.a < 2 ^ 32 → r.b < 2 ^ 32 → r.c < 2 ^ 32 → p.kind < 2 ^ 32 → p.from < 2 ^ 32 → p.to < 2 ^ 32
+    → PutRow n end r (pointer_of p) s (set_word (set_all (set_all s (exprs_at + expr_row * n + 4) (r.sort ∷ r.a ∷ r.b ∷ r.c ∷ end ∷ [])) (expr_pointers_at + pointer_row * n) (p.kind ∷ p.from ∷ p.to ∷ [])) expr_count (n + 1))
 unfolding Outside first_item sort_of pointer_at pointer_of
-row_put s u v t n end r p at to long h he hr hp ea et eu ev ew =
+row_put s n end r p long h he rs ra rb rc pk pf pt =
     let ws = r.sort ∷ r.a ∷ r.b ∷ r.c ∷ end ∷ [] in
     let ps = p.kind ∷ p.from ∷ p.to ∷ [] in
-    let lu : length u ≡ length s = rw eu (length_all s at ws) in
-    let lv : length v ≡ length u = rw ev (length_all u to ps) in
-    let small : Small ws = (hr.0, (hr.1.0, (hr.1.1.0, (hr.1.1.1.0, (he, tt))))) in
+    let at = exprs_at + expr_row * n + 4 in
+    let to = expr_pointers_at + pointer_row * n in
+    let u : List ℕ = set_all s at ws in
+    let v : List ℕ = set_all u to ps in
+    let t : List ℕ = set_word v expr_count (n + 1) in
+    let lu : length u ≡ length s = length_all s at ws in
+    let lv : length v ≡ length u = length_all u to ps in
     let row : (i j : ℕ) → i < 5 → j ≡ at + 4 * i → word t j ≡ get_or ws i 0 = λ i j k e.
-    rw ew (word_set_word_other v expr_count (n + 1) j (inr (omega arith)) ∙ rw ev (all_other u to ps j (inl (omega arith)) ∙ rw eu (all_at s at ws small (omega arith) i j k e))) in
+    word_set_word_other v expr_count (n + 1) j (inr (omega arith)) ∙ all_other u to ps j (inl (omega arith)) ∙ all_at s at ws (rs, (ra, (rb, (rc, (he, tt))))) (omega arith) i j k e in
     let ptr : (i j : ℕ) → i < 3 → j ≡ to + 4 * i → word t j ≡ get_or ps i 0 = λ i j k e.
-    rw ew (word_set_word_other v expr_count (n + 1) j (inr (omega arith)) ∙ rw ev (all_at u to ps hp (omega arith) i j k e)) in
+    word_set_word_other v expr_count (n + 1) j (inr (omega arith)) ∙ all_at u to ps (pk, (pf, (pt, tt))) (omega arith) i j k e in
     record {
       wrote = record {
-        size = rw ew (length_set_word v expr_count (n + 1)) ∙ lv ∙ lu;
+        size = length_set_word v expr_count (n + 1) ∙ lv ∙ lu;
         other = λ j o.
-            rw ew (word_set_word_other v expr_count (n + 1) j o.0
-            ∙ rw ev (all_other u to ps j (⊎_elim (λ z. inl (omega arith)) (λ z. inr (omega arith)) o.1.1.0)
-            ∙ rw eu (all_other s at ws j (⊎_elim (λ z. inl (omega arith)) (λ z. inr (omega arith)) o.1.0))));
+            word_set_word_other v expr_count (n + 1) j o.0
+            ∙ all_other u to ps j (⊎_elim (λ z. inl (omega arith)) (λ z. inr (omega arith)) o.1.1.0)
+            ∙ all_other s at ws j (⊎_elim (λ z. inl (omega arith)) (λ z. inr (omega arith)) o.1.0);
       };
-      still = still_then {u = u} (rw eu (still_all s at ws (omega arith) (λ z. omega arith))) (still_then {u = v} (rw ev (still_all u to ps (omega arith) (λ z. omega arith))) (rw ew (still_set_word v expr_count (n + 1) (omega arith) (λ z. omega arith))));
-      count = rw ew (word_set_word_same v expr_count (n + 1) (omega arith) (omega arith));
+      still = still_then {u = u} (still_all s at ws (omega arith) (λ z. omega arith)) (still_then {u = v} (still_all u to ps (omega arith) (λ z. omega arith)) (still_set_word v expr_count (n + 1) (omega arith) (λ z. omega arith)));
+      count = word_set_word_same v expr_count (n + 1) (omega arith) (omega arith);
       next = row 4 (exprs_at + expr_row * (n + 1)) (omega arith) (omega arith);
-      sort = row 0 (exprs_at + expr_row * n + 4) (omega arith) (omega arith);
+      sort = row 0 at (omega arith) (omega arith);
       a = row 1 (exprs_at + expr_row * n + 8) (omega arith) (omega arith);
       b = row 2 (exprs_at + expr_row * n + 12) (omega arith) (omega arith);
       c = row 3 (exprs_at + expr_row * n + 16) (omega arith) (omega arith);
-      pointer = rw (ptr 0 (expr_pointers_at + pointer_row * n) (omega arith) (omega arith), ptr 1 (expr_pointers_at + pointer_row * n + 4) (omega arith) (omega arith), ptr 2 (expr_pointers_at + pointer_row * n + 8) (omega arith) (omega arith));
+      pointer = rw (ptr 0 to (omega arith) (omega arith), ptr 1 (to + 4) (omega arith) (omega arith), ptr 2 (to + 8) (omega arith) (omega arith));
     }
 
 -- ---- items that an expression may have
@@ -507,16 +511,13 @@ item_unpushed s i n e h =
     let a : ltb (length (waiting_of s)) waiting_limit ≡ false = le-ltb (length (waiting_of s)) waiting_limit (omega (arith, length_waiting s, cap_over (word s waiting_count) waiting_limit (omega arith))) in
     nothing_done (λ fine. rw a)
 
--- ---- places as the code has them
-pub take_inside : (s : List ℕ) (base first count a b c : ℕ) → Long s → first + count ≤ item_limit → count ≡ length (drop base (waiting_of s)) → 0 < count → a ≡ base → b ≡ first → c ≡ count → (waiting_at + item_row * a + 12 * c ≤ length s) × (items_at + item_row * b + 12 * c ≤ length s)
-take_inside s base first count a b c long room size h p q r =
+-- ---- the two places that a move touches
+pub take_inside : (s : List ℕ) (base first count : ℕ) → Long s → first + count ≤ item_limit → count ≡ length (drop base (waiting_of s)) → 0 < count → (waiting_at + item_row * base + 12 * count ≤ length s) × (items_at + item_row * first + 12 * count ≤ length s)
+take_inside s base first count long room size h =
     let l = length_waiting s in
     let m = cap_lim (word s waiting_count) waiting_limit in
     let d = length-drop base (waiting_of s) in
     (omega arith, omega arith)
-
-pub moved_as : (s u : List ℕ) (base first count a b c : ℕ) → a ≡ base → b ≡ first → c ≡ count → u ≡ splice s (items_at + item_row * b) (run s (waiting_at + item_row * a) (12 * c)) → u ≡ splice s (items_at + item_row * first) (run s (waiting_at + item_row * base) (12 * count))
-moved_as s u base first count a b c p q r e = rw (p, q, r) at e
 
 -- ---- one step for another that does the same
 -- an expression by a row that says the same in the store

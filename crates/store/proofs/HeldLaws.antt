@@ -15,18 +15,6 @@ use Rattle.rows.specs.declared.row.ItemRow.{ItemRow}
 use Rattle.store.specs.Codes.{has_text, ranged, HeldRow, HeldItem}
 
 -- ---- sorts
-pub text_first : (sort : ℕ) → sort ≡ 6 → true ≡ has_text sort
-unfolding has_text
-text_first sort e = rw e
-
-pub text_second : (sort : ℕ) → (sort ≡ 6 → ⊥) → sort ≡ 7 → true ≡ has_text sort
-unfolding has_text
-text_second sort n e = rw e
-
-pub text_third : (sort : ℕ) → (sort ≡ 6 → ⊥) → (sort ≡ 7 → ⊥) → eqb sort 21 ≡ has_text sort
-unfolding has_text
-text_third sort n m = rw (ne_eqb sort 6 n, ne_eqb sort 7 m)
-
 -- which sorts have a text
 text_sorts : (P : ℕ → Type 0) → P 6 → P 7 → P 21 → (sort : ℕ) → has_text sort ≡ true → P sort
 unfolding has_text
@@ -57,19 +45,19 @@ coded_other : (s : List ℕ) (sort a b : ℕ) → has_text sort ≡ false → fi
 unfolding fields_coded has_text ranged
 coded_other s sort a b e = rw e
 
-module _ (s : List ℕ) (x : Row) (b : Bool) (h : b ≡ has_text x.sort) where
-  pub row_held : (a : ℕ) → b ≡ true → Held x.a s a → HeldRow x s (record { sort = x.sort; a = a; b = x.b; c = x.c })
+module _ (s : List ℕ) (x : Row) where
+  pub row_held : (a : ℕ) → has_text x.sort ≡ true → Held x.a s a → HeldRow x s (record { sort = x.sort; a = a; b = x.b; c = x.c })
   row_held a e d =
       record {
         sort_same = refl;
         same = λ is.
             let l = like s a x.a x.b x.c is d.same in
-            text_sorts (λ k. expr_of s k a x.b x.c is ≡ expr_of s k x.a x.b x.c is) l.0 l.1.0 l.1.1 x.sort (sym h ∙ e);
-        coded = λ _. let l = fits_coded s a x.b d.fits in text_sorts (λ k. fields_coded s k a x.b ≡ true) l.0 l.1.0 l.1.1 x.sort (sym h ∙ e);
+            text_sorts (λ k. expr_of s k a x.b x.c is ≡ expr_of s k x.a x.b x.c is) l.0 l.1.0 l.1.1 x.sort e;
+        coded = λ _. let l = fits_coded s a x.b d.fits in text_sorts (λ k. fields_coded s k a x.b ≡ true) l.0 l.1.0 l.1.1 x.sort e;
       }
 
-  pub row_itself : b ≡ false → HeldRow x s x
-  row_itself e = record { sort_same = refl; same = λ is. refl; coded = λ r. coded_other s x.sort x.a x.b (sym h ∙ e) ∙ r }
+  pub row_itself : has_text x.sort ≡ false → HeldRow x s x
+  row_itself e = record { sort_same = refl; same = λ is. refl; coded = λ r. coded_other s x.sort x.a x.b e ∙ r }
 
 -- ---- items
 pub item_held : (s : List ℕ) (x : ItemRow) (a : ℕ) → x.tag ≡ 1 → Held x.a s a → HeldItem x s (record { tag = x.tag; a = a; b = x.b })

@@ -7,7 +7,7 @@ use Prim.Native.Nat.{ℕ, suc, ◌+◌, ◌*◌, ◌≤◌, ◌<◌, ◌^◌}
 use native.Mathlib.Omega.{arith}
 use lib.ListN.{length, get_or}
 use lib.Dec.{ltb, leb}
-use borrow.Author.Tests.{lt-ltb, le-ltb, ltb-true, ltb-false}
+use borrow.Author.Tests.{lt-ltb, le-ltb, ltb-true, ltb-false, leb-true}
 use Rattle.words.specs.Words.{word, set_word}
 use Rattle.words.proofs.WordLaws.{length_set_word, word_set_word_same, word_set_word_other}
 use Rattle.spec.specs.Basics.{Text}
@@ -36,11 +36,11 @@ use Rattle.store.proofs.CodedLaws.{NamesCoded, DiagnosticsCoded, exprs_coded, na
 
 -- ---- pointers
 -- a pointer that was written
-pub pointer_put : (s t : List ℕ) (at to : ℕ) (p : code.Pointer) → at ≡ to → at + 12 ≤ length s → Small (p.kind ∷ p.from ∷ p.to ∷ []) → t ≡ set_all s at (p.kind ∷ p.from ∷ p.to ∷ []) → pointer_at t to ≡ pointer_of p
+pub pointer_put : (s : List ℕ) (at : ℕ) (p : code.Pointer) → at + 12 ≤ length s → Small (p.kind ∷ p.from ∷ p.to ∷ []) → pointer_at (set_all s at (p.kind ∷ p.from ∷ p.to ∷ [])) at ≡ pointer_of p
 unfolding pointer_at pointer_of
-pointer_put s t at to p e l small w =
+pointer_put s at p l small =
     let ps = p.kind ∷ p.from ∷ p.to ∷ [] in
-    rw (w, all_at s at ps small (omega arith) 0 to (omega arith) (omega arith), all_at s at ps small (omega arith) 1 (to + 4) (omega arith) (omega arith), all_at s at ps small (omega arith) 2 (to + 8) (omega arith) (omega arith))
+    rw (all_at s at ps small (omega arith) 0 at (omega arith) (omega arith), all_at s at ps small (omega arith) 1 (at + 4) (omega arith) (omega arith), all_at s at ps small (omega arith) 2 (at + 8) (omega arith) (omega arith))
 
 -- ---- names
 length_names : (s : List ℕ) → length (names_of s) ≡ cap (word s name_count) name_limit
@@ -77,25 +77,32 @@ names_coded_more s t n e few c still before own x = record { few = rw c (omega a
     by y h true k = let q = ltb-true y n k in name_coded_same s t still y (λ j a b. before j (omega arith) (omega arith)) ∙ x.rows y (omega arith)
     by y h false k = let z : y ≡ n = omega (arith, ltb-false y n k) in rw z own
 
-pub name_put : (s u v t : List ℕ) (k : code_kinds.NameKind) (p : code.Pointer) (text number n at to : ℕ) → text_fits s text ≡ true → Long s → n ≡ word s name_count → n < name_limit → number ≡ number_of_kind k → text < 2 ^ 32 → number < 2 ^ 32 → Small (p.kind ∷ p.from ∷ p.to ∷ []) → at ≡ names_at + name_row * n → to ≡ name_pointers_at + pointer_row * n
-    → u ≡ set_all s at (text ∷ number ∷ []) → v ≡ set_all u to (p.kind ∷ p.from ∷ p.to ∷ []) → t ≡ set_word v name_count (n + 1) → Did (put_name (name_with (text_in s text) (kind_of k) (pointer_of p))) s n t
+pub name_put : (s : List ℕ) (k : code_kinds.NameKind) (p : code.Pointer) (text n : ℕ) → text_fits s text ≡ true → Long s → n ≡ word s name_count → n < name_limit → text < 2 ^ 32 → p.kind < 2 ^ 32 → p.from < 2 ^ 32 → p.to < 2 ^ 32
+    → Did (put_name (name_with (text_in s text) (kind_of k) (pointer_of p))) s n (set_word (set_all (set_all s (names_at + name_row * n) (text ∷ number_of_kind k ∷ [])) (name_pointers_at + pointer_row * n) (p.kind ∷ p.from ∷ p.to ∷ [])) name_count (n + 1))
 unfolding work_of put_name with_state state_of lowering Outside name_with
-name_put s u v t k p text number n at to fits long e few en ht hn hp ea et eu ev ew =
+name_put s k p text n fits long e few ht pk pf pt =
+    let number = number_of_kind k in
+    let low = leb-true number 4 (kind_low k) in
     let ws = text ∷ number ∷ [] in
     let ps = p.kind ∷ p.from ∷ p.to ∷ [] in
-    let lu : length u ≡ length s = rw eu (length_all s at ws) in
-    let lv : length v ≡ length u = rw ev (length_all u to ps) in
+    let at = names_at + name_row * n in
+    let to = name_pointers_at + pointer_row * n in
+    let u : List ℕ = set_all s at ws in
+    let v : List ℕ = set_all u to ps in
+    let t : List ℕ = set_word v name_count (n + 1) in
+    let lu : length u ≡ length s = length_all s at ws in
+    let lv : length v ≡ length u = length_all u to ps in
     let wrote : Wrote ((name_count, name_count + 4) ∷ (names_at, diagnostics_at) ∷ []) s t = record {
-      size = rw ew (length_set_word v name_count (n + 1)) ∙ lv ∙ lu;
-      other = λ j o. rw ew (word_set_word_other v name_count (n + 1) j o.0 ∙ rw ev (all_other u to ps j (⊎_elim (λ z. inl (omega arith)) (λ z. inr (omega arith)) o.1.0) ∙ rw eu (all_other s at ws j (⊎_elim (λ z. inl (omega arith)) (λ z. inr (omega arith)) o.1.0))));
+      size = length_set_word v name_count (n + 1) ∙ lv ∙ lu;
+      other = λ j o. word_set_word_other v name_count (n + 1) j o.0 ∙ all_other u to ps j (⊎_elim (λ z. inl (omega arith)) (λ z. inr (omega arith)) o.1.0) ∙ all_other s at ws j (⊎_elim (λ z. inl (omega arith)) (λ z. inr (omega arith)) o.1.0);
     } in
-    let still : Still s t = still_then {u = u} (rw eu (still_all s at ws (omega arith) (λ z. omega arith))) (still_then {u = v} (rw ev (still_all u to ps (omega arith) (λ z. omega arith))) (rw ew (still_set_word v name_count (n + 1) (omega arith) (λ z. omega arith)))) in
-    let c : word t name_count ≡ n + 1 = rw ew (word_set_word_same v name_count (n + 1) (omega arith) (omega arith)) in
-    let row : (i j : ℕ) → i < 2 → j ≡ at + 4 * i → word t j ≡ get_or ws i 0 = λ i j h q. rw ew (word_set_word_other v name_count (n + 1) j (inr (omega arith)) ∙ rw ev (all_other u to ps j (inl (omega arith)) ∙ rw eu (all_at s at ws (ht, (hn, tt)) (omega arith) i j h q))) in
-    let pointer : pointer_at t (name_pointers_at + pointer_row * n) ≡ pointer_of p = pointer_same v t (name_pointers_at + pointer_row * n) (λ j a b. rw ew (word_set_word_other v name_count (n + 1) j (inr (omega arith)))) ∙ pointer_put u v to (name_pointers_at + pointer_row * n) p et (omega arith) hp ev in
-    let names : Same s t names_at (names_at + name_row * n) = λ j a b. rw ew (word_set_word_other v name_count (n + 1) j (inr (omega arith)) ∙ rw ev (all_other u to ps j (inl (omega arith)) ∙ rw eu (all_other s at ws j (inl (omega arith))))) in
-    let pointers : Same s t name_pointers_at (name_pointers_at + pointer_row * n) = λ j a b. rw ew (word_set_word_other v name_count (n + 1) j (inr (omega arith)) ∙ rw ev (all_other u to ps j (inl (omega arith)) ∙ rw eu (all_other s at ws j (inr (omega arith))))) in
-    let own : name_in t n ≡ name_with (text_in s text) (kind_of k) (pointer_of p) = name_own s t k (pointer_of p) text number n en (row 0 (names_at + name_row * n) (omega arith) (omega arith)) (row 1 (names_at + name_row * n + 4) (omega arith) (omega arith)) pointer still in
+    let still : Still s t = still_then {u = u} (still_all s at ws (omega arith) (λ z. omega arith)) (still_then {u = v} (still_all u to ps (omega arith) (λ z. omega arith)) (still_set_word v name_count (n + 1) (omega arith) (λ z. omega arith))) in
+    let c : word t name_count ≡ n + 1 = word_set_word_same v name_count (n + 1) (omega arith) (omega arith) in
+    let row : (i j : ℕ) → i < 2 → j ≡ at + 4 * i → word t j ≡ get_or ws i 0 = λ i j h q. word_set_word_other v name_count (n + 1) j (inr (omega arith)) ∙ all_other u to ps j (inl (omega arith)) ∙ all_at s at ws (ht, (omega arith, tt)) (omega arith) i j h q in
+    let pointer : pointer_at t (name_pointers_at + pointer_row * n) ≡ pointer_of p = pointer_same v t (name_pointers_at + pointer_row * n) (λ j a b. word_set_word_other v name_count (n + 1) j (inr (omega arith))) ∙ pointer_put u to p (omega arith) (pk, (pf, (pt, tt))) in
+    let names : Same s t names_at (names_at + name_row * n) = λ j a b. word_set_word_other v name_count (n + 1) j (inr (omega arith)) ∙ all_other u to ps j (inl (omega arith)) ∙ all_other s at ws j (inl (omega arith)) in
+    let pointers : Same s t name_pointers_at (name_pointers_at + pointer_row * n) = λ j a b. word_set_word_other v name_count (n + 1) j (inr (omega arith)) ∙ all_other u to ps j (inl (omega arith)) ∙ all_other s at ws j (inr (omega arith)) in
+    let own : name_in t n ≡ name_with (text_in s text) (kind_of k) (pointer_of p) = name_own s t k (pointer_of p) text number n refl (row 0 (names_at + name_row * n) (omega arith) (omega arith)) (row 1 (names_at + name_row * n + 4) (omega arith) (omega arith)) pointer still in
     let more = names_more s t n _ e few c still names pointers own in
     let l : ltb (length (names_of s)) name_limit ≡ true = lt-ltb (length (names_of s)) name_limit (omega (arith, length_names s, cap_le (word s name_count) name_limit (omega arith))) in
     let size : length (names_of s) ≡ n = omega (arith, length_names s, cap_le (word s name_count) name_limit (omega arith)) in
@@ -118,7 +125,7 @@ name_put s u v t k p text number n at to fits long e few en ht hn hp ea et eu ev
         ),
         all_coded
             (exprs_coded_kept wrote still refl refl refl (exprs_coded fine))
-            (names_coded_more s t n e few c still names (name_row_put s t k text number n still en (row 0 (names_at + name_row * n) (omega arith) (omega arith)) (row 1 (names_at + name_row * n + 4) (omega arith) (omega arith)) fits) (names_coded fine))
+            (names_coded_more s t n e few c still names (name_row_put s t k text number n still refl (row 0 (names_at + name_row * n) (omega arith) (omega arith)) (row 1 (names_at + name_row * n + 4) (omega arith) (omega arith)) fits) (names_coded fine))
             (diagnostics_coded_kept wrote still refl refl (diagnostics_coded fine))
             (waits_coded_kept wrote still refl refl fine.waits),
       );
@@ -135,29 +142,34 @@ name_full s x n e h =
     nothing_done (λ fine. rw a)
 
 -- ---- diagnostics and the lost list
-pub diagnostic_put : (s u v w t : List ℕ) (first second : code.Pointer) (key n a b c : ℕ) → Long s → n < diagnostic_limit → key < 2 ^ 32 → Small (first.kind ∷ first.from ∷ first.to ∷ []) → Small (second.kind ∷ second.from ∷ second.to ∷ []) → a ≡ diagnostics_at + diagnostic_row * n → b ≡ diagnostics_at + diagnostic_row * n + 4 → c ≡ diagnostics_at + diagnostic_row * n + 16
-    → u ≡ set_word s a key → v ≡ set_all u b (first.kind ∷ first.from ∷ first.to ∷ []) → w ≡ set_all v c (second.kind ∷ second.from ∷ second.to ∷ []) → t ≡ set_word w diagnostic_count (n + 1) → PutDiagnostic n key (pointer_of first) (pointer_of second) s t
+pub diagnostic_put : (s : List ℕ) (first second : code.Pointer) (key n : ℕ) → Long s → n < diagnostic_limit → key < 2 ^ 32 → first.kind < 2 ^ 32 → first.from < 2 ^ 32 → first.to < 2 ^ 32 → second.kind < 2 ^ 32 → second.from < 2 ^ 32 → second.to < 2 ^ 32
+    → PutDiagnostic n key (pointer_of first) (pointer_of second) s (set_word (set_all (set_all (set_word s (diagnostics_at + diagnostic_row * n) key) (diagnostics_at + diagnostic_row * n + 4) (first.kind ∷ first.from ∷ first.to ∷ [])) (diagnostics_at + diagnostic_row * n + 16) (second.kind ∷ second.from ∷ second.to ∷ [])) diagnostic_count (n + 1))
 unfolding Outside
-diagnostic_put s u v w t first second key n a b c long few hk hf hs ea eb ec eu ev ew et =
+diagnostic_put s first second key n long few hk f0 f1 f2 s0 s1 s2 =
     let fs = first.kind ∷ first.from ∷ first.to ∷ [] in
     let ss = second.kind ∷ second.from ∷ second.to ∷ [] in
-    let lu : length u ≡ length s = rw eu (length_set_word s a key) in
-    let lv : length v ≡ length u = rw ev (length_all u b fs) in
-    let lw : length w ≡ length v = rw ew (length_all v c ss) in
+    let a = diagnostics_at + diagnostic_row * n in
+    let u : List ℕ = set_word s a key in
+    let v : List ℕ = set_all u (a + 4) fs in
+    let w : List ℕ = set_all v (a + 16) ss in
+    let t : List ℕ = set_word w diagnostic_count (n + 1) in
+    let lu : length u ≡ length s = length_set_word s a key in
+    let lv : length v ≡ length u = length_all u (a + 4) fs in
+    let lw : length w ≡ length v = length_all v (a + 16) ss in
     record {
       wrote = record {
-        size = rw et (length_set_word w diagnostic_count (n + 1)) ∙ lw ∙ lv ∙ lu;
+        size = length_set_word w diagnostic_count (n + 1) ∙ lw ∙ lv ∙ lu;
         other = λ j o.
-            rw et (word_set_word_other w diagnostic_count (n + 1) j o.0
-            ∙ rw ew (all_other v c ss j (⊎_elim (λ z. inl (omega arith)) (λ z. inr (omega arith)) o.1.0)
-            ∙ rw ev (all_other u b fs j (⊎_elim (λ z. inl (omega arith)) (λ z. inr (omega arith)) o.1.0)
-            ∙ rw eu (word_set_word_other s a key j (⊎_elim (λ z. inl (omega arith)) (λ z. inr (omega arith)) o.1.0)))));
+            word_set_word_other w diagnostic_count (n + 1) j o.0
+            ∙ all_other v (a + 16) ss j (⊎_elim (λ z. inl (omega arith)) (λ z. inr (omega arith)) o.1.0)
+            ∙ all_other u (a + 4) fs j (⊎_elim (λ z. inl (omega arith)) (λ z. inr (omega arith)) o.1.0)
+            ∙ word_set_word_other s a key j (⊎_elim (λ z. inl (omega arith)) (λ z. inr (omega arith)) o.1.0);
       };
-      still = still_then {u = u} (rw eu (still_set_word s a key (omega arith) (λ z. omega arith))) (still_then {u = v} (rw ev (still_all u b fs (omega arith) (λ z. omega arith))) (still_then {u = w} (rw ew (still_all v c ss (omega arith) (λ z. omega arith))) (rw et (still_set_word w diagnostic_count (n + 1) (omega arith) (λ z. omega arith)))));
-      count = rw et (word_set_word_same w diagnostic_count (n + 1) (omega arith) (omega arith));
-      key_is = rw et (word_set_word_other w diagnostic_count (n + 1) (diagnostics_at + diagnostic_row * n) (inr (omega arith)) ∙ rw ew (all_other v c ss (diagnostics_at + diagnostic_row * n) (inl (omega arith)) ∙ rw ev (all_other u b fs (diagnostics_at + diagnostic_row * n) (inl (omega arith)) ∙ rw (eu, ea) (word_set_word_same s (diagnostics_at + diagnostic_row * n) key (omega arith) hk))));
-      first_is = pointer_same v t (diagnostics_at + diagnostic_row * n + 4) (λ j x y. rw et (word_set_word_other w diagnostic_count (n + 1) j (inr (omega arith)) ∙ rw ew (all_other v c ss j (inl (omega arith))))) ∙ pointer_put u v b (diagnostics_at + diagnostic_row * n + 4) first eb (omega arith) hf ev;
-      second_is = pointer_same w t (diagnostics_at + diagnostic_row * n + 16) (λ j x y. rw et (word_set_word_other w diagnostic_count (n + 1) j (inr (omega arith)))) ∙ pointer_put v w c (diagnostics_at + diagnostic_row * n + 16) second ec (omega arith) hs ew;
+      still = still_then {u = u} (still_set_word s a key (omega arith) (λ z. omega arith)) (still_then {u = v} (still_all u (a + 4) fs (omega arith) (λ z. omega arith)) (still_then {u = w} (still_all v (a + 16) ss (omega arith) (λ z. omega arith)) (still_set_word w diagnostic_count (n + 1) (omega arith) (λ z. omega arith))));
+      count = word_set_word_same w diagnostic_count (n + 1) (omega arith) (omega arith);
+      key_is = word_set_word_other w diagnostic_count (n + 1) a (inr (omega arith)) ∙ all_other v (a + 16) ss a (inl (omega arith)) ∙ all_other u (a + 4) fs a (inl (omega arith)) ∙ word_set_word_same s a key (omega arith) hk;
+      first_is = pointer_same v t (a + 4) (λ j x y. word_set_word_other w diagnostic_count (n + 1) j (inr (omega arith)) ∙ all_other v (a + 16) ss j (inl (omega arith))) ∙ pointer_put u (a + 4) first (omega arith) (f0, (f1, (f2, tt)));
+      second_is = pointer_same w t (a + 16) (λ j x y. word_set_word_other w diagnostic_count (n + 1) j (inr (omega arith))) ∙ pointer_put v (a + 16) second (omega arith) (s0, (s1, (s2, tt)));
     }
 
 length_diagnostics : (s : List ℕ) → length (diagnostics_of s) ≡ cap (word s diagnostic_count) diagnostic_limit
@@ -195,19 +207,22 @@ diagnostics_coded_more s t n m key e few c fewer d still before own fits x = rec
     by i h true k = let q = ltb-true i n k in rw (before (diagnostics_at + diagnostic_row * i) (omega arith) (omega arith)) (fits_still s t still (word s (diagnostics_at + diagnostic_row * i)) ∙ x.rows i (omega arith))
     by i h false k = let z : i ≡ n = omega (arith, ltb-false i n k) in rw (z, own) (fits_still s t still key ∙ fits)
 
-pub lost_put : (s u t : List ℕ) (p : code.Pointer) (n at : ℕ) → Long s → n < diagnostic_limit → Small (p.kind ∷ p.from ∷ p.to ∷ []) → at ≡ lost_at + pointer_row * n → u ≡ set_all s at (p.kind ∷ p.from ∷ p.to ∷ []) → t ≡ set_word u lost_count (n + 1) → PutLost n (pointer_of p) s t
+pub lost_put : (s : List ℕ) (p : code.Pointer) (n : ℕ) → Long s → n < diagnostic_limit → p.kind < 2 ^ 32 → p.from < 2 ^ 32 → p.to < 2 ^ 32 → PutLost n (pointer_of p) s (set_word (set_all s (lost_at + pointer_row * n) (p.kind ∷ p.from ∷ p.to ∷ [])) lost_count (n + 1))
 unfolding Outside
-lost_put s u t p n at long few hp ea eu et =
+lost_put s p n long few hk hf ht =
     let ps = p.kind ∷ p.from ∷ p.to ∷ [] in
-    let lu : length u ≡ length s = rw eu (length_all s at ps) in
+    let at = lost_at + pointer_row * n in
+    let u : List ℕ = set_all s at ps in
+    let t : List ℕ = set_word u lost_count (n + 1) in
+    let lu : length u ≡ length s = length_all s at ps in
     record {
       wrote = record {
-        size = rw et (length_set_word u lost_count (n + 1)) ∙ lu;
-        other = λ j o. rw et (word_set_word_other u lost_count (n + 1) j o.0 ∙ rw eu (all_other s at ps j (⊎_elim (λ z. inl (omega arith)) (λ z. inr (omega arith)) o.1.0)));
+        size = length_set_word u lost_count (n + 1) ∙ lu;
+        other = λ j o. word_set_word_other u lost_count (n + 1) j o.0 ∙ all_other s at ps j (⊎_elim (λ z. inl (omega arith)) (λ z. inr (omega arith)) o.1.0);
       };
-      still = still_then {u = u} (rw eu (still_all s at ps (omega arith) (λ z. omega arith))) (rw et (still_set_word u lost_count (n + 1) (omega arith) (λ z. omega arith)));
-      count = rw et (word_set_word_same u lost_count (n + 1) (omega arith) (omega arith));
-      is = pointer_same u t (lost_at + pointer_row * n) (λ j a b. rw et (word_set_word_other u lost_count (n + 1) j (inr (omega arith)))) ∙ pointer_put s u at (lost_at + pointer_row * n) p ea (omega arith) hp eu;
+      still = still_then {u = u} (still_all s at ps (omega arith) (λ z. omega arith)) (still_set_word u lost_count (n + 1) (omega arith) (λ z. omega arith));
+      count = word_set_word_same u lost_count (n + 1) (omega arith) (omega arith);
+      is = pointer_same u t at (λ j a b. word_set_word_other u lost_count (n + 1) j (inr (omega arith))) ∙ pointer_put s at p (omega arith) (hk, (hf, (ht, tt)));
     }
 
 pub duplicate_put : (s u t : List ℕ) (first second : Pointer) (given key n m : ℕ) → Held given s key → Long s → n ≡ word s diagnostic_count → n < diagnostic_limit → m ≡ word s lost_count → m < diagnostic_limit

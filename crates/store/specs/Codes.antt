@@ -6,12 +6,11 @@ use Rattle.module.specs.declared.expr.Expr.{Expr}
 use Rattle.module.specs.declared.expr.Expr.TheVariants.{Missing, Apply, IfThenElse, Literal, Lambda, LetIn, List as ListOf, BinOp, AttrSet, UnaryOp, Reference, Select, HasAttr, With, Assert, StringInterpolation, PathInterpolation}
 use Rattle.module.specs.declared.expr.Pattern.{Pattern}
 use Rattle.module.specs.declared.expr.Pattern.TheVariants.{Absent, Closed, Ellipsis}
-use Rattle.module.specs.declared.expr.Item.{Item}
 use Rattle.module.specs.declared.literal.Literal as code_literal
 use Rattle.module.specs.declared.literal.Literal.TheVariants as literals
 use Rattle.rows.specs.declared.row.Row.{Row}
 use Rattle.rows.specs.declared.row.ItemRow.{ItemRow}
-use Rattle.rows.specs.Decoded.{expr_with, item_with}
+use Rattle.rows.specs.Decoded.{expr_with}
 use Rattle.layout.specs.Texts.{text_in}
 use Rattle.layout.specs.Exprs as rows
 use Rattle.soundness.specs.Coded.{fields_coded, part_coded}
@@ -76,10 +75,6 @@ pub record Says (r : Row) (e : Expr) : Type 0 where
   pub same : (s : List ℕ) (is : List rows.Item) → rows.expr_of s r.sort r.a r.b r.c is ≡ expr_with (text_in s) e is
   pub sort_is : r.sort ≡ sort_for e
   pub in_range : ranged r.sort r.a r.b ≡ true
-
-pub record SaysItem (r : ItemRow) (i : Item) : Type 0 where
-  pub same : (s : List ℕ) → rows.item_of s r.tag r.a r.b ≡ item_with (text_in s) i
-  pub in_range : leb r.tag 9 ≡ true
 
 -- ---- texts within the bytes in use
 -- a row that says the same in the store s, its text within the bytes in use

@@ -1,14 +1,14 @@
-// How an expression and an item lie in their rows: docs/STORE.md's sorts and tags.
+// How an expression lies in its row: docs/STORE.md's sorts. Each sort is written here and read back in decode.rt of rows,
+// a number in between, since a row is a word of bytes that anybody may write.
+#![tactic(auto, unfolding(layout::specs::Exprs::expr_of, rows::specs::Decoded::expr_with, rows::specs::Decoded::pattern_with, rows::specs::Decoded::ValidExpr, crate::specs::Codes::sort_for, crate::specs::Codes::literal_sort, crate::specs::Codes::lambda_sort, crate::specs::Codes::select_sort, crate::specs::Codes::ranged, module::specs::Literals::literal_of, module::specs::Ids::expr_of, module::specs::Ids::name_of))]
+
 ghost use Rattle.std.specs.Prelude.{◌≡◌, ◌≤◌, ◌*◌, ◌+◌};
 ghost use Rattle.rows.specs.Decoded.{ValidExpr};
-ghost use Rattle.store.specs.Codes.{Says, SaysItem};
+ghost use Rattle.store.specs.Codes.{Says};
 ghost use Rattle.module.specs.Literals.{Valid};
 
-use module::{
-    BindingValue, Expr, ExprId, Item, Literal, NameId, Pattern, TextId, bits_of, float_of,
-    integer_of, value_of,
-};
-use rows::{ItemRow, Row};
+use module::{Expr, ExprId, Literal, NameId, Pattern, bits_of, value_of};
+use rows::Row;
 
 // A number in two words, the higher first.
 fn halves(sort: u32, n: u64) -> Row
@@ -138,7 +138,7 @@ fn set_row(is_rec: bool) -> Row
     }
 }
 
-// The row of an expression with a pointer.
+// The row of an expression with a pointer. It is no `From`, which may not ask for a condition, as ValidExpr is.
 pub fn row_of(e: Expr) -> Row
     requires { ValidExpr e }
     ensures { Says result e }
@@ -225,80 +225,6 @@ pub fn row_of(e: Expr) -> Row
             a: 0,
             b: 0,
             c: 0,
-        },
-    }
-}
-
-// Without and with a name, each without and with a default.
-fn field_row(x: Option<NameId>, default: Option<ExprId>) -> ItemRow
-    ensures { SaysItem result (Item.Field x default) }
-{
-    match x {
-        None => match default {
-            None => ItemRow { tag: 2, a: 0, b: 0 },
-            Some(d) => ItemRow {
-                tag: 4,
-                a: 0,
-                b: d.0,
-            },
-        },
-        Some(n) => match default {
-            None => ItemRow {
-                tag: 3,
-                a: n.0,
-                b: 0,
-            },
-            Some(d) => ItemRow {
-                tag: 5,
-                a: n.0,
-                b: d.0,
-            },
-        },
-    }
-}
-
-fn static_row(x: NameId, v: BindingValue) -> ItemRow
-    ensures { SaysItem result (Item.Static x v) }
-{
-    match v {
-        BindingValue::Expr(e) => ItemRow {
-            tag: 6,
-            a: x.0,
-            b: e.0,
-        },
-        BindingValue::Inherit(e) => ItemRow {
-            tag: 7,
-            a: x.0,
-            b: e.0,
-        },
-        BindingValue::InheritFrom(e) => ItemRow {
-            tag: 8,
-            a: x.0,
-            b: e.0,
-        },
-    }
-}
-
-pub fn item_row(i: Item) -> ItemRow
-    ensures { SaysItem result i }
-{
-    match i {
-        Item::Child(e) => ItemRow {
-            tag: 0,
-            a: e.0,
-            b: 0,
-        },
-        Item::Text(t) => ItemRow {
-            tag: 1,
-            a: t.0,
-            b: 0,
-        },
-        Item::Field(x, default) => field_row(x, default),
-        Item::Static(x, v) => static_row(x, v),
-        Item::Dynamic(k, v) => ItemRow {
-            tag: 9,
-            a: k.0,
-            b: v.0,
         },
     }
 }

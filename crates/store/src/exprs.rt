@@ -12,18 +12,19 @@ ghost use Rattle.store.specs.Codes.{sort_for, row_made, expr_made, hole_made};
 ghost use Rattle.store.specs.TextChanges.{Reworded};
 ghost use Rattle.store.specs.Work.{Did, Takes, push_item, take_lone, Took, PutRow};
 
-use crate::codes::{item_row, row_of};
+use crate::codes::row_of;
 use crate::held::{held_item, held_row};
 use layout::tables::{
     EXPR_COUNT, EXPR_LIMIT, EXPR_POINTERS, EXPR_ROW, EXPRS, ITEM_LIMIT, ITEM_ROW, ITEMS,
     POINTER_ROW, WAITING, WAITING_COUNT, WAITING_LIMIT,
 };
-use layout::{at_most, counter, put_pointer, put_words, wide};
+use layout::{at_most, counter, put_pointer, put_words};
 use module::{Counter, Expr, ExprId, Item, Pointer, TextId};
-use rows::{REFERENCE, Row, expr_count};
+use rows::{ItemRow, REFERENCE, Row, expr_count};
 use words::{get32, move_run, put32};
 
 // How many items wait for their expression.
+#[tactic(auto, using(crate::proofs::ExprLaws::waiting_counted))]
 pub fn waiting_count(store: &[u8]) -> u32
     requires { Long store.now }
     ensures { result ≡ length (waiting_of store.now) }
@@ -32,17 +33,18 @@ pub fn waiting_count(store: &[u8]) -> u32
 }
 
 // One more item waits.
+#[tactic(auto, using(crate::proofs::ExprLaws::item_unpushed, module::proofs::CounterLaws::room_left, module::proofs::CounterLaws::room_gone))]
 pub fn push_item(store: &mut [u8], i: Item)
     requires { Long store.old }
     ensures { Did (push_item (item_with (text_in store.old) i)) store.old tt store.new }
 {
     let count = counter(store, WAITING_COUNT);
     if count.has_room(WAITING_LIMIT) {
-        let row = held_item(store, item_row(i));
+        let row = held_item(store, ItemRow::from(i));
         let next = count.next();
         put_words(
             store,
-            WAITING + ITEM_ROW * wide(count.used),
+            WAITING + ITEM_ROW * count.used as usize,
             [row.tag, row.a, row.b],
         );
         put32(store, WAITING_COUNT, next.used);
@@ -50,15 +52,16 @@ pub fn push_item(store: &mut [u8], i: Item)
 }
 
 // How many wait from `base` on.
+#[tactic(auto, using(crate::proofs::ExprLaws::waiting_left, crate::proofs::ExprLaws::waiting_within))]
 fn waiting_from(store: &[u8], base: u32) -> u32
     requires { Long store.now }
     ensures { (result ≡ length (drop base (waiting_of store.now))) × (result ≤ waiting_limit) }
 {
-    let n = waiting_count(store);
-    if base < n { n - base } else { 0 }
+    waiting_count(store).saturating_sub(base)
 }
 
 // The items that wait from `base` on are put in use.
+#[tactic(auto, using(crate::proofs::ExprLaws::took_none))]
 fn take_items(store: &mut [u8], base: u32, count: u32, first: u32)
     requires { Long store.old × (first + count ≤ item_limit) × (count ≡ length (drop base (waiting_of store.old))) }
     ensures { Took base count first store.old store.new }
@@ -66,20 +69,21 @@ fn take_items(store: &mut [u8], base: u32, count: u32, first: u32)
     if 0 < count {
         move_run(
             store,
-            WAITING + ITEM_ROW * wide(base),
-            ITEMS + ITEM_ROW * wide(first),
-            ITEM_ROW * wide(count),
+            WAITING + ITEM_ROW * base as usize,
+            ITEMS + ITEM_ROW * first as usize,
+            ITEM_ROW * count as usize,
         );
         put32(store, WAITING_COUNT, base);
     }
 }
 
 // The row of the next expression, whose items end at `end`.
+#[tactic(auto, using(crate::proofs::ExprLaws::row_put))]
 fn put_row(store: &mut [u8], count: Counter, end: u32, row: Row, p: Pointer)
     requires { Long store.old × (count.used < expr_limit) }
     ensures { PutRow count.used end row (pointer_of p) store.old store.new }
 {
-    let n = wide(count.used);
+    let n = count.used as usize;
     let next = count.next();
     put_words(
         store,
@@ -91,13 +95,14 @@ fn put_row(store: &mut [u8], count: Counter, end: u32, row: Row, p: Pointer)
 }
 
 // An expression whose items are those that wait from `base` on.
+#[tactic(auto, using(crate::proofs::ExprLaws::did_where, crate::proofs::ExprLaws::row_full, module::proofs::CounterLaws::room_left, module::proofs::CounterLaws::room_gone))]
 fn alloc_row(store: &mut [u8], row: Row, base: u32, p: Pointer) -> ExprId
     requires { Long store.old × (fields_coded store.old row.sort row.a row.b ≡ true) }
     ensures { Takes row.sort (row_made store.old row (pointer_of p)) base store.old result.0 store.new }
 {
     let count = counter(store, EXPR_COUNT);
     if count.has_room(EXPR_LIMIT) {
-        let first = get32(store, EXPRS + EXPR_ROW * wide(count.used));
+        let first = get32(store, EXPRS + EXPR_ROW * count.used as usize);
         let waiting = waiting_from(store, base);
         if first <= ITEM_LIMIT - waiting {
             take_items(store, base, waiting, first);
@@ -119,6 +124,7 @@ pub fn alloc_expr(store: &mut [u8], e: Expr, base: u32, p: Pointer) -> ExprId
 }
 
 // "Missing without a pointer": it has no items, and leaves those that wait.
+#[tactic(auto, unfolding(soundness::specs::Coded::fields_coded))]
 pub fn alloc_missing(store: &mut [u8]) -> ExprId
     requires { Long store.old }
     ensures { Did (take_lone hole_made) store.old result.0 store.new }
@@ -133,15 +139,12 @@ pub fn alloc_missing(store: &mut [u8]) -> ExprId
             c: 0,
         },
         base,
-        Pointer {
-            kind: 0,
-            from: 0,
-            to: 0,
-        },
+        Pointer::default(),
     )
 }
 
 // The expression e, if it is a Reference, has another text.
+#[tactic(auto, using(rows::proofs::ReferenceLaws::exprs_cap, crate::proofs::TextChangeLaws::no_expr))]
 pub fn set_reference_text(store: &mut [u8], e: ExprId, t: TextId)
     requires { Long store.old }
     ensures { Reworded e.0 t.0 store.old store.new }
@@ -150,8 +153,8 @@ pub fn set_reference_text(store: &mut [u8], e: ExprId, t: TextId)
     if expr_count(store) <= n {
         return;
     }
-    if get32(store, EXPRS + EXPR_ROW * wide(n) + 4) != REFERENCE {
+    if get32(store, EXPRS + EXPR_ROW * n as usize + 4) != REFERENCE {
         return;
     }
-    put32(store, EXPRS + EXPR_ROW * wide(n) + 8, t.0);
+    put32(store, EXPRS + EXPR_ROW * n as usize + 8, t.0);
 }

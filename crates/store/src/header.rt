@@ -9,6 +9,7 @@ use words::put32;
 
 // All counts are 0, and the lists of the first rows begin at 0. The nodes and the texts stay, though
 // no text is in use.
+#[tactic(auto, using(crate::proofs::ClearLaws::cleared))]
 pub fn clear(store: &mut [u8])
     requires { Long store.old }
     ensures { Cleared store.old store.new }
@@ -22,6 +23,7 @@ pub fn clear(store: &mut [u8])
 }
 
 // The expression of the whole text.
+#[tactic(auto, using(crate::proofs::EntryLaws::entry_set))]
 pub fn set_entry(store: &mut [u8], e: ExprId)
     requires { Long store.old }
     ensures { SetEntry e.0 store.old store.new }

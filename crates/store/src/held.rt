@@ -10,28 +10,22 @@ use texts::held_text;
 const TEXT_PART: u32 = 1;
 
 // Literal String, Literal Path and Reference.
+#[tactic(auto, unfolding(crate::specs::Codes::has_text))]
 fn has_text(sort: u32) -> bool
     ensures { result ≡ has_text sort }
 {
-    if sort == 6 {
-        return true;
-    }
-    if sort == 7 {
-        return true;
-    }
-    sort == 21
+    sort == 6 || sort == 7 || sort == 21
 }
 
+#[tactic(auto, using(crate::proofs::HeldLaws::row_itself))]
 pub fn held_row(store: &[u8], row: Row) -> Row
     requires { Long store.now }
     ensures { HeldRow row store.now result }
 {
     if has_text(row.sort) {
         return Row {
-            sort: row.sort,
             a: held_text(store, row.a),
-            b: row.b,
-            c: row.c,
+            ..row
         };
     }
     row
@@ -43,9 +37,8 @@ pub fn held_item(store: &[u8], row: ItemRow) -> ItemRow
 {
     if row.tag == TEXT_PART {
         return ItemRow {
-            tag: row.tag,
             a: held_text(store, row.a),
-            b: row.b,
+            ..row
         };
     }
     row

@@ -1,19 +1,10 @@
 -- `rows::source_map::expr_for_node` meets its contract.
+use Rattle.std.proofs.Common.{rules}
+use mathlib.Core.Path.{◌≡◌, refl, sym, ◌∙◌}
 use Rattle.module.specs.Ids.{expr_of}
-use Rattle.rows.proofs.SourceMapLaws.{expr_pointer, exprs_asked, last_found, last_passed, last_lacked}
+use Rattle.rows.proofs.SourceMapLaws.{expr_pointer, exprs_asked, last_found, as_found}
 use Rattle.rows.proofs.source_map.expr_for_node.Goals as goal
 
-pub loop-n-init : goal.loop-n-init
-loop-n-init c = exprs_asked _ _ _ c.expr_count-n.ensures.0
-
-pub returns-then-expr_points : goal.returns-then-expr_points
-unfolding expr_of expr_pointer
-returns-then-expr_points c = last_found _ _ _ _ c.loop-n.invariant c.loop-n-test.true _ c.expr_points.ensures c.if-expr_points.true
-
-pub loop-n-preserved : goal.loop-n-preserved
-unfolding expr_pointer
-loop-n-preserved c = last_passed _ _ _ _ c.loop-n.invariant c.loop-n-test.true _ c.expr_points.ensures c.if-expr_points.false
-
 pub returns : goal.returns
-unfolding expr_of
-returns c = last_lacked _ _ _ _ c.loop-n.invariant c.loop-n-test.false
+unfolding expr_pointer expr_of as_found
+returns c = let shown : expr_of c.map.result ≡ as_found c.rfind.result = search rules in shown ∙ sym (exprs_asked _ _ _ c.expr_count.ensures.0 ∙ last_found _ (expr_pointer c.args.store.now) _ (λ x b q k. search rules) _ _ _ _ refl c.rfind.ensures.ran)

@@ -1,18 +1,11 @@
 -- `rows::source_map::name_for_node` meets its contract.
+use Rattle.std.proofs.Common.{rules}
+use mathlib.Core.Path.{◌≡◌, refl, sym, ◌∙◌}
 use Rattle.module.specs.Ids.{name_of}
-use Rattle.rows.proofs.SourceMapLaws.{names_asked, name_pointed, last_found, last_passed, last_lacked}
+use Rattle.spec.specs.Module.{points_to}
+use Rattle.rows.proofs.SourceMapLaws.{name_pointer, names_asked, last_found, as_found}
 use Rattle.rows.proofs.source_map.name_for_node.Goals as goal
 
-pub loop-n-init : goal.loop-n-init
-loop-n-init c = names_asked _ _ _ c.name_count-n.ensures.0
-
-pub returns-then-same_pointer : goal.returns-then-same_pointer
-unfolding name_of
-returns-then-same_pointer c = last_found _ _ _ _ c.loop-n.invariant c.loop-n-test.true _ (name_pointed _ _ _ _ c.wide.ensures _ c.same_pointer.ensures) c.if-same_pointer.true
-
-pub loop-n-preserved : goal.loop-n-preserved
-loop-n-preserved c = last_passed _ _ _ _ c.loop-n.invariant c.loop-n-test.true _ (name_pointed _ _ _ _ c.wide.ensures _ c.same_pointer.ensures) c.if-same_pointer.false
-
 pub returns : goal.returns
-unfolding name_of
-returns c = last_lacked _ _ _ _ c.loop-n.invariant c.loop-n-test.false
+unfolding name_of name_pointer points_to as_found
+returns c = let shown : name_of c.map.result ≡ as_found c.rfind.result = search rules in shown ∙ sym (names_asked _ _ _ c.name_count.ensures.0 ∙ last_found _ (name_pointer c.args.store.now) _ (λ x b q k. search rules) _ _ _ _ refl c.rfind.ensures.ran)

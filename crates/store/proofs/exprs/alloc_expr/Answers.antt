@@ -2,8 +2,5 @@
 use Rattle.store.proofs.ExprLaws.{expr_allocated}
 use Rattle.store.proofs.exprs.alloc_expr.Goals as goal
 
-pub alloc_row-requires : goal.alloc_row-requires
-alloc_row-requires c = (c.requires.0, c.held_row-row.ensures.coded c.row_of.ensures.in_range)
-
 pub returns : goal.returns
 returns c = expr_allocated _ _ c.row_of.result c.held_row-row.result _ _ _ _ c.row_of.ensures c.held_row-row.ensures c.alloc_row.ensures
