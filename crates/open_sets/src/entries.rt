@@ -10,7 +10,7 @@ ghost use Rattle.open_sets.specs.Entries.{entry_with, Storable, PutEntry, change
 use crate::entry::{Entry, SetId};
 use crate::entry_rows::{EntryRow, binding_words, entry_of, entry_row};
 use layout::tables::{ENTRIES, ENTRY_COUNT, ENTRY_LIMIT, ENTRY_ROW};
-use layout::{at_most, put_words, wide};
+use layout::{at_most, put_words};
 use module::{BindingValue, ExprId};
 use words::{get32, put32};
 
@@ -29,7 +29,7 @@ pub fn entry_at(store: &[u8], i: u32) -> Entry
     if entry_count(store) <= i {
         return Entry::Source(SetId(0), ExprId(0));
     }
-    let at = ENTRIES + ENTRY_ROW * wide(i);
+    let at = ENTRIES + ENTRY_ROW * i as usize;
     entry_of(EntryRow {
         tag: get32(store, at),
         set: get32(store, at + 4),
@@ -47,7 +47,7 @@ pub fn put_entry(store: &mut [u8], n: u32, e: Entry)
     ensures { PutEntry n e store.old store.new }
 {
     let row = entry_row(e);
-    let at = ENTRIES + ENTRY_ROW * wide(n);
+    let at = ENTRIES + ENTRY_ROW * n as usize;
     put_words(store, at, [row.tag, row.set, row.a, row.b, row.nested]);
     put_words(store, at + 20, [row.sort, row.value]);
 }
@@ -59,7 +59,7 @@ pub fn set_value(store: &mut [u8], i: u32, v: BindingValue)
 {
     if i < entry_count(store) {
         let words = binding_words(v);
-        let at = ENTRIES + ENTRY_ROW * wide(i);
+        let at = ENTRIES + ENTRY_ROW * i as usize;
         put_words(store, at + 20, [words.sort, words.value]);
     }
 }
@@ -70,7 +70,7 @@ pub fn set_nested(store: &mut [u8], i: u32, t: SetId)
     ensures { Did (change i (with_nested t.0)) store.old tt store.new }
 {
     if i < entry_count(store) {
-        let at = ENTRIES + ENTRY_ROW * wide(i);
+        let at = ENTRIES + ENTRY_ROW * i as usize;
         put32(store, at + 16, t.0);
     }
 }

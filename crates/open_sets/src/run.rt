@@ -13,7 +13,6 @@ use crate::entries::{entry_at, entry_count};
 use crate::entry::{Entry, SetId};
 use crate::standing::{Standing, compare_standings, standing_of};
 use layout::tables::{ABSENT, RUN};
-use layout::wide;
 use module::TextId;
 use std::cmp::Ordering;
 use words::get32;
@@ -24,7 +23,7 @@ fn in_run(store: &[u8], j: u32) -> u32
     ensures { result ≡ get_or (order_of store.now) j 0 }
 {
     if j < entry_count(store) {
-        return get32(store, RUN + 4 * wide(j));
+        return get32(store, RUN + 4 * j as usize);
     }
     0
 }

@@ -11,7 +11,7 @@ ghost use Rattle.open_sets.specs.Entries.{open_set, cut_to};
 use crate::entries::entry_count;
 use crate::entry::SetId;
 use layout::tables::{SET_COUNT, SET_LIMIT, SET_ROW, SETS};
-use layout::{at_most, counter, get_pointer, put_pointer, put_words, wide};
+use layout::{at_most, counter, get_pointer, put_pointer, put_words};
 use module::{NameKind, Pointer};
 use words::{get32, put32};
 
@@ -29,7 +29,7 @@ pub fn open_set(store: &mut [u8], kind: NameKind, p: Pointer) -> SetId
 {
     let count = counter(store, SET_COUNT);
     if count.has_room(SET_LIMIT) {
-        let at = SETS + SET_ROW * wide(count.used);
+        let at = SETS + SET_ROW * count.used as usize;
         let number = kind.number();
         let next = count.next();
         put_pointer(store, at, p);
@@ -53,7 +53,7 @@ pub fn set_pointer(store: &[u8], s: SetId) -> Pointer
             to: 0,
         };
     }
-    get_pointer(store, SETS + SET_ROW * wide(n))
+    get_pointer(store, SETS + SET_ROW * n as usize)
 }
 
 pub fn set_name_kind(store: &[u8], s: SetId) -> NameKind
@@ -64,7 +64,7 @@ pub fn set_name_kind(store: &[u8], s: SetId) -> NameKind
     if set_count(store) <= n {
         return NameKind::PlainAttrset;
     }
-    NameKind::from(get32(store, SETS + SET_ROW * wide(n) + 12))
+    NameKind::from(get32(store, SETS + SET_ROW * n as usize + 12))
 }
 
 // At most so many sets and entries stay. The run has a place for each entry, and keeps as many.

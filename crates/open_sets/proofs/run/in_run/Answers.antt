@@ -4,10 +4,10 @@ use native.Mathlib.Omega.{arith}
 use Rattle.open_sets.proofs.run.in_run.Goals as goal
 
 pub get32-requires : goal.get32-requires
-get32-requires c = omega (arith, c.requires, c.entry_count.ensures.1, c.wide.ensures)
+get32-requires c = omega (arith, c.requires, c.entry_count.ensures.1)
 
 pub returns-then-j-entry_count : goal.returns-then-j-entry_count
-returns-then-j-entry_count c = number_here _ _ _ _ c.entry_count.ensures.0 c.if-j-entry_count.true (rw c.wide.ensures at c.get32.ensures)
+returns-then-j-entry_count c = number_here _ _ _ _ c.entry_count.ensures.0 c.if-j-entry_count.true c.get32.ensures
 
 pub returns : goal.returns
 returns c = number_past _ _ _ c.entry_count.ensures.0 c.if-j-entry_count.false

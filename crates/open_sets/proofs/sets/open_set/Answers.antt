@@ -10,10 +10,10 @@ pub next-next-requires : goal.next-next-requires
 next-next-requires c = small_next _ _ _ c.has_room.ensures c.if-has_room.true (omega arith)
 
 pub put_pointer-requires : goal.put_pointer-requires
-put_pointer-requires c = omega (arith, room_left c.has_room.result c.counter-count.result.used set_limit c.has_room.ensures c.if-has_room.true, c.wide.ensures)
+put_pointer-requires c = omega (arith, room_left c.has_room.result c.counter-count.result.used set_limit c.has_room.ensures c.if-has_room.true)
 
 pub put32-requires : goal.put32-requires
-put32-requires c = omega (arith, room_left c.has_room.result c.counter-count.result.used set_limit c.has_room.ensures c.if-has_room.true, c.wide.ensures)
+put32-requires c = omega (arith, room_left c.has_room.result c.counter-count.result.used set_limit c.has_room.ensures c.if-has_room.true)
 
 pub returns-then-has_room : goal.returns-then-has_room
 returns-then-has_room c = (set_opened _ _ _ _ _ _ _ _ _ c.requires c.counter-count.ensures (room_left _ _ _ c.has_room.ensures c.if-has_room.true) c.number-number.ensures (omega arith) (omega arith, (omega arith, (omega arith, tt))) (omega arith) c.put_pointer.ensures c.put32.ensures (c.put32-then-has_room.ensures ∙ rw c.next-next.ensures), omega (arith, room_left c.has_room.result c.counter-count.result.used set_limit c.has_room.ensures c.if-has_room.true))
