@@ -20,10 +20,11 @@ use Rattle.layout.specs.Texts.{text_in}
 use Rattle.layout.specs.States.{entries_of, state_of, order_of}
 use Rattle.open_sets.specs.declared.standing.Standing.{Standing}
 use Rattle.open_sets.specs.Ranks.{class_of, key_of, standing, rank, before, InOrder, placed}
-use Rattle.open_sets.specs.Run.{standing_with, stops_at, Place, is_equal, found_at}
+use Rattle.open_sets.specs.Run.{class_number, standing_with, stops_at, Place, found_at}
 use Rattle.open_sets.proofs.Halving.{Begins}
 use Rattle.open_sets.proofs.RankFind.{probe, is_at_standing, standing_is_at, find_past, find_other, find_there}
 use Rattle.open_sets.proofs.RunReads.{stops_at_lem}
+use Rattle.std.specs.Ordering.{is_eq}
 
 -- ---- what was found at a place
 module _ (s : List ℕ) (j n : ℕ) (p : Standing) (en : n ≡ length (entries_of s)) where
@@ -31,11 +32,11 @@ module _ (s : List ℕ) (j n : ℕ) (p : Standing) (en : n ≡ length (entries_o
     within : ltb j (length (entries_of s)) ≡ true
     within = lt-ltb j (length (entries_of s)) (omega arith)
 
-    pub found_not : is_equal o ≡ false → none ≡ found_at s j p
+    pub found_not : is_eq o ≡ false → none ≡ found_at s j p
     unfolding found_at
     found_not e = rw (within, ← said, e)
 
-    pub found_here : (i : ℕ) → is_equal o ≡ true → i ≡ get_or (order_of s) j 0 → some i ≡ found_at s j p
+    pub found_here : (i : ℕ) → is_eq o ≡ true → i ≡ get_or (order_of s) j 0 → some i ≡ found_at s j p
     unfolding found_at
     found_here i e q = rw (within, ← said, e, q)
 
@@ -44,13 +45,12 @@ module _ (s : List ℕ) (j n : ℕ) (p : Standing) (en : n ≡ length (entries_o
   found_past h = rw (le-ltb j (length (entries_of s)) (omega arith))
 
 -- ---- at the first place that does not stand before the key
-equal_is : (o : Ordering) → is_equal o ≡ true → o ≡ Equal
-unfolding is_equal
+equal_is : (o : Ordering) → is_eq o ≡ true → o ≡ Equal
 equal_is Less h = differ (sym h)
 equal_is Equal h = refl
 equal_is Greater h = differ (sym h)
 
-module _ (s : List ℕ) (set : ℕ) (p : Standing) (q : ℕ) (whose : p.set ≡ set) (class : p.class ≡ 0) (place : Place false p s q) (o : InOrder (entries_of s) (order_of s)) where
+module _ (s : List ℕ) (set : ℕ) (p : Standing) (q : ℕ) (whose : p.set ≡ set) (class : class_number p.class ≡ 0) (place : Place false p s q) (o : InOrder (entries_of s) (order_of s)) where
   abbrev key : Text
   key = text_in s p.key.0
 
@@ -68,8 +68,8 @@ module _ (s : List ℕ) (set : ℕ) (p : Standing) (q : ℕ) (whose : p.set ≡ 
   abbrev here : MergingEntry
   here = placed (entries_of s) (order_of s) q
 
-  finds_at : (b : Bool) → q < length (entries_of s) → is_equal (order (standing here) (standing (probe set key))) ≡ b → found_at s q p ≡ find set key (state_of s)
-  unfolding found_at state_of is_equal
+  finds_at : (b : Bool) → q < length (entries_of s) → is_eq (order (standing here) (standing (probe set key))) ≡ b → found_at s q p ≡ find set key (state_of s)
+  unfolding found_at state_of
   finds_at true h e =
       let same = order_equal (standing here) (standing (probe set key)) (equal_is _ e) in
       rw (lt-ltb q (length (entries_of s)) h, looked_for, e) (sym (find_there set key (state_of s) q o begins h (standing_is_at set key here same)))

@@ -11,7 +11,7 @@ ghost use Rattle.open_sets.specs.Run.{standing_with, stops, Place, maybe_entry_o
 
 use crate::entries::{entry_at, entry_count};
 use crate::entry::{Entry, SetId};
-use crate::standing::{Standing, compare_standings, standing_of};
+use crate::standing::{Class, Standing, compare_standings, standing_of};
 use layout::tables::{ABSENT, RUN};
 use module::TextId;
 use std::cmp::Ordering;
@@ -89,7 +89,7 @@ pub fn find(store: &[u8], s: SetId, key: TextId) -> Option<u32>
 {
     let p = Standing {
         set: s.0,
-        class: 0,
+        class: Class::Static,
         key,
     };
     let j = place(store, p, false);
@@ -103,7 +103,7 @@ pub fn first_of(store: &[u8], s: SetId) -> u32
 {
     let p = Standing {
         set: s.0,
-        class: 0,
+        class: Class::Static,
         key: TextId(ABSENT),
     };
     place(store, p, false)
