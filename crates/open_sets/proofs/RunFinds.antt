@@ -2,10 +2,8 @@
 use mathlib.Core.Path.{◌≡◌, refl, sym, ◌∙◌}
 use mathlib.Core.Bool.{Bool, true, false, not}
 use mathlib.Core.List.{List}
-use mathlib.Core.Option.{none, some}
 use Prim.Native.Nat.{ℕ, ◌≤◌, ◌<◌}
-use native.Mathlib.Omega.{arith}
-use lib.ListN.{length, get_or}
+use lib.ListN.{length}
 use lib.Dec.{ltb}
 use borrow.Author.Tests.{lt-ltb, le-ltb, ltb-true, ltb-false}
 use Rattle.words.specs.Order.{order}
@@ -25,24 +23,6 @@ use Rattle.open_sets.proofs.Halving.{Begins}
 use Rattle.open_sets.proofs.RankFind.{probe, is_at_standing, standing_is_at, find_past, find_other, find_there}
 use Rattle.open_sets.proofs.RunReads.{stops_at_lem}
 use Rattle.std.specs.Ordering.{is_eq}
-
--- ---- what was found at a place
-module _ (s : List ℕ) (j n : ℕ) (p : Standing) (en : n ≡ length (entries_of s)) where
-  module _ (o : Ordering) (h : j < n) (said : o ≡ order (standing (placed (entries_of s) (order_of s) j)) (standing_with s p)) where
-    within : ltb j (length (entries_of s)) ≡ true
-    within = lt-ltb j (length (entries_of s)) (omega arith)
-
-    pub found_not : is_eq o ≡ false → none ≡ found_at s j p
-    unfolding found_at
-    found_not e = rw (within, ← said, e)
-
-    pub found_here : (i : ℕ) → is_eq o ≡ true → i ≡ get_or (order_of s) j 0 → some i ≡ found_at s j p
-    unfolding found_at
-    found_here i e q = rw (within, ← said, e, q)
-
-  pub found_past : n ≤ j → none ≡ found_at s j p
-  unfolding found_at
-  found_past h = rw (le-ltb j (length (entries_of s)) (omega arith))
 
 -- ---- at the first place that does not stand before the key
 equal_is : (o : Ordering) → is_eq o ≡ true → o ≡ Equal

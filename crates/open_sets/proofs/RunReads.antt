@@ -24,11 +24,11 @@ use Rattle.open_sets.specs.declared.standing.Class.TheVariants.{Static, Source, 
 use Rattle.open_sets.specs.contracts.standing.ClassOrd.TheImpl as class_ord
 use Rattle.open_sets.specs.Ranks.{standing, InOrder, placed}
 use Rattle.open_sets.specs.Entries.{entry_with}
-use Rattle.open_sets.specs.Run.{class_number, standing_with, Stands, stops, stops_at, Place}
+use Rattle.open_sets.specs.Run.{class_number, standing_with, Stands, stops, stops_at}
 use Rattle.open_sets.proofs.RankOrder.{Le, less_is_greater, le_trans, le_gt}
 use Rattle.open_sets.proofs.RankLaws.{run_le}
 use Rattle.open_sets.proofs.EntryLaws.{length_entries}
-use Rattle.open_sets.proofs.Halving.{Rising, Halved, halved_none, halved_left, halved_right, halved_done}
+use Rattle.open_sets.proofs.Halving.{Rising, Halved, halved_left, halved_right}
 
 -- ---- the numbers
 pub length_order : (s : List ℕ) → length (order_of s) ≡ length (entries_of s)
@@ -116,9 +116,6 @@ unfolding stops_at
 said past p s middle r x a b = rw (← a, ← b)
 
 module _ {past : Bool} {p : Standing} {s : List ℕ} where
-  pub search_begun : (n : ℕ) → n ≡ length (entries_of s) → n ≤ entry_limit → Search past p s 0 n
-  search_begun n e h = record { apart = omega arith; within = omega arith; few = h; halved = λ o. rw e halved_none }
-
   pub search_left : {low high : ℕ} (middle : ℕ) (r : Bool) (x : Ordering) → Search past p s low high → low ≤ middle → middle < high → x ≡ order (standing (placed (entries_of s) (order_of s) middle)) (standing_with s p) → r ≡ stops past x → r ≡ true → Search past p s low middle
   search_left middle r x g h l a b e = record {
     apart = h;
@@ -133,12 +130,4 @@ module _ {past : Bool} {p : Standing} {s : List ℕ} where
     within = g.within;
     few = g.few;
     halved = λ o. halved_right middle (search_rises past p s o) (g.halved o) h l (said past p s middle r x a b ∙ e);
-  }
-
-  pub search_done : {low high : ℕ} → Search past p s low high → high ≤ low → Place past p s low
-  search_done {low} {high} g h = record {
-    within = omega (arith, g.apart, g.within);
-    few = omega (arith, g.apart, g.few);
-    fails = λ o. (halved_done (g.halved o) h).fails;
-    passes = λ o. (halved_done (g.halved o) h).passes;
   }

@@ -27,6 +27,7 @@ fn insert_number(store: &mut [u8], q: u32, count: Counter)
 }
 
 // Of equal ones the earlier stands first, so it comes after those that stand where it does.
+#[tactic(auto, using(module::proofs::CounterLaws::room_gone, crate::proofs::RunAdds::not_entered))]
 pub fn add_entry(store: &mut [u8], e: Entry)
     requires { Long store.old × Storable e }
     ensures { Entered (entry_with store.old e) store.old store.new }

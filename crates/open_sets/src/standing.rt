@@ -26,6 +26,7 @@ pub struct Standing {
 }
 
 // Sources and dynamics have no key.
+#[tactic(auto, using(layout::proofs::Frames::text_absent), unfolding(crate::specs::Run::standing_with, crate::specs::Ranks::standing, crate::specs::Ranks::class_of, crate::specs::Ranks::key_of, crate::specs::Entries::entry_with))]
 pub fn standing_of(e: Entry) -> Standing
     ensures { Stands result e }
 {
@@ -48,6 +49,7 @@ pub fn standing_of(e: Entry) -> Standing
     }
 }
 
+#[tactic(auto, using(crate::proofs::RunReads::standings_compared))]
 pub fn compare_standings(store: &[u8], x: Standing, y: Standing) -> Ordering
     requires { Long store.now }
     ensures { result ≡ order (standing_with store.now x) (standing_with store.now y) }
