@@ -7,13 +7,10 @@ use lib.ListN.{length}
 use lib.Dec.{ltb}
 use borrow.Author.Tests.{lt-ltb, le-ltb, ltb-true, ltb-false}
 use Rattle.words.specs.Order.{order}
-use Rattle.std.specs.declared.cmp.Ordering.{Ordering}
-use Rattle.std.specs.declared.cmp.Ordering.TheVariants.{Less, Equal, Greater}
 use Rattle.words.proofs.OrderLaws.{order_refl, order_equal}
 use Rattle.spec.specs.Basics.{Text}
 use Rattle.spec.specs.State.{MergingEntry}
 use Rattle.spec.specs.Merge.{is_at, find}
-use Rattle.spec.proofs.general.BoolLaws.{differ}
 use Rattle.layout.specs.Texts.{text_in}
 use Rattle.layout.specs.States.{entries_of, state_of, order_of}
 use Rattle.open_sets.specs.declared.standing.Standing.{Standing}
@@ -23,13 +20,9 @@ use Rattle.open_sets.proofs.Halving.{Begins}
 use Rattle.open_sets.proofs.RankFind.{probe, is_at_standing, standing_is_at, find_past, find_other, find_there}
 use Rattle.open_sets.proofs.RunReads.{stops_at_lem}
 use Rattle.std.specs.Ordering.{is_eq}
+use Rattle.std.specs.Cmp.{Equal-is}
 
 -- ---- at the first place that does not stand before the key
-equal_is : (o : Ordering) → is_eq o ≡ true → o ≡ Equal
-equal_is Less h = differ (sym h)
-equal_is Equal h = refl
-equal_is Greater h = differ (sym h)
-
 module _ (s : List ℕ) (set : ℕ) (p : Standing) (q : ℕ) (whose : p.set ≡ set) (class : class_number p.class ≡ 0) (place : Place false p s q) (o : InOrder (entries_of s) (order_of s)) where
   abbrev key : Text
   key = text_in s p.key.0
@@ -51,7 +44,7 @@ module _ (s : List ℕ) (set : ℕ) (p : Standing) (q : ℕ) (whose : p.set ≡ 
   finds_at : (b : Bool) → q < length (entries_of s) → is_eq (order (standing here) (standing (probe set key))) ≡ b → found_at s q p ≡ find set key (state_of s)
   unfolding found_at state_of
   finds_at true h e =
-      let same = order_equal (standing here) (standing (probe set key)) (equal_is _ e) in
+      let same = order_equal (standing here) (standing (probe set key)) ((Equal-is _).0 e) in
       rw (lt-ltb q (length (entries_of s)) h, looked_for, e) (sym (find_there set key (state_of s) q o begins h (standing_is_at set key here same)))
   finds_at false h e = rw (lt-ltb q (length (entries_of s)) h, looked_for, e) (sym (find_other set key (state_of s) q o begins h (other (is_at set key here) refl)))
     where
