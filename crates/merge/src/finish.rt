@@ -94,6 +94,7 @@ pub fn finish_set(store: &mut [u8], s: SetId)
 }
 
 // The same as an expression.
+#[tactic(auto, using(crate::proofs::FinishLaws::nested_whole))]
 pub fn finish_nested(store: &mut [u8], s: SetId) -> ExprId
     requires { Long store.old }
     ensures { Finishing (load (entries_of store.old) (length (sets_of store.old)) s.0) (finish_expr s.0) store.old result.0 store.new }
