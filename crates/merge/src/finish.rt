@@ -18,6 +18,7 @@ use open_sets::{Entry, SetId, entry_of, first_of, set_count, set_pointer};
 use store::{alloc_expr, alloc_missing, push_item, waiting_count};
 
 // docs/RULES.md, "Finishing": "a nested set still wins"
+#[tactic(auto, using(crate::proofs::FinishLaws::nested_wins, crate::proofs::FinishLaws::value_stays, crate::proofs::FinishLaws::value_missing), unfolding(open_sets::specs::Entries::maybe_set_of, open_sets::specs::Entries::maybe_value_of, module::specs::Ids::binding_of))]
 #[cycle(finishing)]
 fn finish_value(
     store: &mut [u8],
@@ -57,6 +58,7 @@ fn finish_entry(store: &mut [u8], bound: u32, e: Entry)
 
 // Pushes the bindings of a set, in the order of the run. The place is counted by hand: what an entry pushes goes into
 // the store that the next one is read from, which no iterator could have borrowed.
+#[tactic(auto, using(crate::proofs::FinishLaws::going_none), unfolding(open_sets::specs::Run::NextInRun))]
 #[cycle(finishing)]
 pub fn finish(store: &mut [u8], bound: u32, s: SetId)
     requires { Long store.old }
@@ -70,6 +72,7 @@ pub fn finish(store: &mut [u8], bound: u32, s: SetId)
 }
 
 // The set as an expression.
+#[tactic(auto, using(crate::proofs::FinishLaws::no_bound), unfolding(rows::specs::Decoded::ValidExpr))]
 #[cycle(finishing)]
 pub fn finish_expr(store: &mut [u8], bound: u32, s: SetId) -> ExprId
     requires { Long store.old }
