@@ -37,6 +37,7 @@ fn finish_value(
 }
 
 // Pushes the item of an entry.
+#[tactic(auto, using(crate::proofs::FinishLaws::lone_listed), unfolding(open_sets::specs::Entries::entry_with, rows::specs::Decoded::item_with, crate::specs::Finishes::finish_entry, crate::specs::Finishes::entry_load))]
 #[cycle(finishing)]
 fn finish_entry(store: &mut [u8], bound: u32, e: Entry)
     requires { Long store.old }
@@ -58,7 +59,7 @@ fn finish_entry(store: &mut [u8], bound: u32, e: Entry)
 
 // Pushes the bindings of a set, in the order of the run. The place is counted by hand: what an entry pushes goes into
 // the store that the next one is read from, which no iterator could have borrowed.
-#[tactic(auto, using(crate::proofs::FinishLaws::going_none), unfolding(open_sets::specs::Run::NextInRun))]
+#[tactic(auto, using(crate::proofs::FinishLaws::going_none, crate::proofs::FinishLaws::going_more, crate::proofs::FinishLaws::going_done), unfolding(open_sets::specs::Run::NextInRun))]
 #[cycle(finishing)]
 pub fn finish(store: &mut [u8], bound: u32, s: SetId)
     requires { Long store.old }
@@ -72,7 +73,7 @@ pub fn finish(store: &mut [u8], bound: u32, s: SetId)
 }
 
 // The set as an expression.
-#[tactic(auto, using(crate::proofs::FinishLaws::no_bound), unfolding(rows::specs::Decoded::ValidExpr))]
+#[tactic(auto, using(crate::proofs::FinishLaws::no_bound, crate::proofs::FinishLaws::set_finished), unfolding(rows::specs::Decoded::ValidExpr))]
 #[cycle(finishing)]
 pub fn finish_expr(store: &mut [u8], bound: u32, s: SetId) -> ExprId
     requires { Long store.old }
