@@ -9,7 +9,7 @@ use module::{BindingValue, Expr, ExprId, Item, Literal, Pointer, TextId};
 use store::{alloc_expr, push_item, waiting_count};
 
 // From where the entries stand: a reference.
-#[tactic(auto, unfolding(rows::specs::Decoded::ValidExpr))]
+#[tactic(auto, using(crate::proofs::InheritSteps::inherits_plain), unfolding(module::specs::Ids::binding_of, rows::specs::Decoded::ValidExpr))]
 fn inherited(store: &mut [u8], key: TextId, p: Pointer) -> BindingValue
     requires { Long store.old }
     ensures { Inherits none (text_in store.old key.0) (pointer_of p) store.old (binding_of result) store.new }

@@ -59,6 +59,7 @@ fn nested_in(e: Entry) -> Option<SetId>
 }
 
 // The nested set that a key has.
+#[tactic(auto, using(crate::proofs::KeySteps::nested_read, crate::proofs::KeySteps::nested_found, crate::proofs::KeySteps::nested_missed), unfolding(open_sets::specs::Run::maybe_entry_of, open_sets::specs::Entries::maybe_set_of))]
 pub fn nested_at(store: &[u8], s: SetId, key: TextId) -> Option<SetId>
     requires { Long store.now }
     ensures { Lowerable store.now → maybe_set_of result ≡ definition.nested_at (definition.find s.0 (text_in store.now key.0) (state_of store.now)) (state_of store.now) }
