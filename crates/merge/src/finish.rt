@@ -18,6 +18,7 @@ use open_sets::{Entry, SetId, entry_of, first_of, set_count, set_pointer};
 use store::{alloc_expr, alloc_missing, push_item, waiting_count};
 
 // docs/RULES.md, "Finishing": "a nested set still wins"
+#[tactic(auto, using(crate::proofs::FinishLaws::nested_wins, crate::proofs::FinishLaws::value_stays, crate::proofs::FinishLaws::value_missing), unfolding(open_sets::specs::Entries::maybe_set_of, open_sets::specs::Entries::maybe_value_of, module::specs::Ids::binding_of))]
 #[cycle(finishing)]
 fn finish_value(
     store: &mut [u8],
@@ -36,6 +37,7 @@ fn finish_value(
 }
 
 // Pushes the item of an entry.
+#[tactic(auto, using(crate::proofs::FinishLaws::lone_listed), unfolding(open_sets::specs::Entries::entry_with, rows::specs::Decoded::item_with, crate::specs::Finishes::finish_entry, crate::specs::Finishes::entry_load))]
 #[cycle(finishing)]
 fn finish_entry(store: &mut [u8], bound: u32, e: Entry)
     requires { Long store.old }
@@ -57,6 +59,7 @@ fn finish_entry(store: &mut [u8], bound: u32, e: Entry)
 
 // Pushes the bindings of a set, in the order of the run. The place is counted by hand: what an entry pushes goes into
 // the store that the next one is read from, which no iterator could have borrowed.
+#[tactic(auto, using(crate::proofs::FinishLaws::going_none, crate::proofs::FinishLaws::going_more, crate::proofs::FinishLaws::going_done), unfolding(open_sets::specs::Run::NextInRun))]
 #[cycle(finishing)]
 pub fn finish(store: &mut [u8], bound: u32, s: SetId)
     requires { Long store.old }
@@ -70,6 +73,7 @@ pub fn finish(store: &mut [u8], bound: u32, s: SetId)
 }
 
 // The set as an expression.
+#[tactic(auto, using(crate::proofs::FinishLaws::no_bound, crate::proofs::FinishLaws::set_finished), unfolding(rows::specs::Decoded::ValidExpr))]
 #[cycle(finishing)]
 pub fn finish_expr(store: &mut [u8], bound: u32, s: SetId) -> ExprId
     requires { Long store.old }
@@ -94,6 +98,7 @@ pub fn finish_set(store: &mut [u8], s: SetId)
 }
 
 // The same as an expression.
+#[tactic(auto, using(crate::proofs::FinishLaws::nested_whole))]
 pub fn finish_nested(store: &mut [u8], s: SetId) -> ExprId
     requires { Long store.old }
     ensures { Finishing (load (entries_of store.old) (length (sets_of store.old)) s.0) (finish_expr s.0) store.old result.0 store.new }

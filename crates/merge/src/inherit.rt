@@ -9,6 +9,7 @@ use module::{BindingValue, Expr, ExprId, Item, Literal, Pointer, TextId};
 use store::{alloc_expr, push_item, waiting_count};
 
 // From where the entries stand: a reference.
+#[tactic(auto, using(crate::proofs::InheritSteps::inherits_plain), unfolding(module::specs::Ids::binding_of, rows::specs::Decoded::ValidExpr))]
 fn inherited(store: &mut [u8], key: TextId, p: Pointer) -> BindingValue
     requires { Long store.old }
     ensures { Inherits none (text_in store.old key.0) (pointer_of p) store.old (binding_of result) store.new }
@@ -19,6 +20,7 @@ fn inherited(store: &mut [u8], key: TextId, p: Pointer) -> BindingValue
 }
 
 // From a set: a Select, whose path is the key as a literal.
+#[tactic(auto, unfolding(rows::specs::Decoded::ValidExpr, module::specs::Literals::Valid))]
 fn inherited_from(store: &mut [u8], set: ExprId, key: TextId, p: Pointer) -> BindingValue
     requires { Long store.old }
     ensures { Inherits (some set.0) (text_in store.old key.0) (pointer_of p) store.old (binding_of result) store.new }
@@ -30,6 +32,7 @@ fn inherited_from(store: &mut [u8], set: ExprId, key: TextId, p: Pointer) -> Bin
     BindingValue::InheritFrom(e)
 }
 
+#[tactic(auto, unfolding(module::specs::Ids::expr_of))]
 pub fn inherit_value(store: &mut [u8], set: Option<ExprId>, key: TextId, p: Pointer) -> BindingValue
     requires { Long store.old }
     ensures { Inherits (expr_of set) (text_in store.old key.0) (pointer_of p) store.old (binding_of result) store.new }

@@ -20,6 +20,7 @@ use rows::name_pointer;
 use store::{add_duplicate, alloc_name};
 
 // One more of the set's inherit_froms.
+#[tactic(auto, unfolding(open_sets::specs::Entries::Storable))]
 pub fn add_source(store: &mut [u8], s: SetId, e: ExprId)
     requires { Long store.old }
     ensures { Lowering (suc s.0) (λ _. 0) one_entry (λ _. add_entry (source s.0 e.0)) store.old tt store.new }
@@ -28,6 +29,7 @@ pub fn add_source(store: &mut [u8], s: SetId, e: ExprId)
 }
 
 // One more of the set's dynamics.
+#[tactic(auto, unfolding(open_sets::specs::Entries::Storable))]
 pub fn add_dynamic(store: &mut [u8], s: SetId, key: ExprId, value: ExprId)
     requires { Long store.old }
     ensures { Lowering (suc s.0) (λ _. 0) one_entry (λ _. add_entry (dynamic s.0 key.0 value.0)) store.old tt store.new }
@@ -36,6 +38,7 @@ pub fn add_dynamic(store: &mut [u8], s: SetId, key: ExprId, value: ExprId)
 }
 
 // What the entry of a key has: its name, its nested set.
+#[tactic(auto, unfolding(open_sets::specs::Entries::entry_with, spec::specs::Merge::name_in))]
 fn name_in(e: Entry) -> NameId
     ensures { (st : List ℕ) → result.0 ≡ definition.name_in (entry_with st e) }
 {
@@ -45,6 +48,7 @@ fn name_in(e: Entry) -> NameId
     }
 }
 
+#[tactic(auto, unfolding(open_sets::specs::Entries::entry_with, open_sets::specs::Entries::maybe_set_of, spec::specs::Merge::nested_in))]
 fn nested_in(e: Entry) -> Option<SetId>
     ensures { (st : List ℕ) → maybe_set_of result ≡ definition.nested_in (entry_with st e) }
 {
@@ -55,6 +59,7 @@ fn nested_in(e: Entry) -> Option<SetId>
 }
 
 // The nested set that a key has.
+#[tactic(auto, using(crate::proofs::KeySteps::nested_read, crate::proofs::KeySteps::nested_found, crate::proofs::KeySteps::nested_missed), unfolding(open_sets::specs::Run::maybe_entry_of, open_sets::specs::Entries::maybe_set_of))]
 pub fn nested_at(store: &[u8], s: SetId, key: TextId) -> Option<SetId>
     requires { Long store.now }
     ensures { Lowerable store.now → maybe_set_of result ≡ definition.nested_at (definition.find s.0 (text_in store.now key.0) (state_of store.now)) (state_of store.now) }
@@ -73,6 +78,7 @@ fn name_key(store: &mut [u8], s: SetId, key: TextId, p: Pointer) -> NameId
 }
 
 // A value at a key that is new.
+#[tactic(auto, unfolding(open_sets::specs::Entries::Storable, open_sets::specs::Entries::HeldSet))]
 fn first_value(store: &mut [u8], s: SetId, key: TextId, p: Pointer, value: BindingValue)
     requires { Long store.old }
     ensures { Merges key_price (definition.merge_value_at s.0 (text_in store.old key.0) (pointer_of p) (binding_of value) none) store.old tt store.new }
@@ -104,6 +110,7 @@ pub fn merge_static_value(store: &mut [u8], s: SetId, key: TextId, p: Pointer, v
 }
 
 // A nested set at a key that is new.
+#[tactic(auto, unfolding(open_sets::specs::Entries::Storable, open_sets::specs::Entries::HeldSet))]
 fn first_nested(store: &mut [u8], s: SetId, key: TextId, p: Pointer) -> SetId
     requires { Long store.old }
     ensures { Merges nested_price (definition.nested_static_at s.0 (text_in store.old key.0) (pointer_of p) none) store.old result.0 store.new }

@@ -1,34 +1,19 @@
 -- What is read from the rows of entries, and what stands in them. Assumes nothing.
 use mathlib.Core.Path.{◌≡◌}
 use mathlib.Core.List.{List}
-use mathlib.Core.Option.{some}
 use Prim.Native.Nat.{ℕ, ◌+◌, ◌*◌, ◌≤◌, ◌<◌}
 use native.Mathlib.Omega.{arith}
 use lib.ListN.{length}
-use borrow.Author.Tests.{ne_eqb}
 use Rattle.words.specs.Words.{word}
-use Rattle.spec.specs.Module.{inherit_from}
 use Rattle.spec.specs.State.{source}
 use Rattle.spec.specs.Merge.{entry_at}
-use Rattle.layout.specs.Layout.{absent, entry_limit, entry_row, entry_count, entries_at}
-use Rattle.layout.specs.Rows.{cap, marked}
-use Rattle.layout.specs.States.{value_of, entry_in, entries_of, state_of}
+use Rattle.layout.specs.Layout.{entry_limit, entry_row, entry_count, entries_at}
+use Rattle.layout.specs.Rows.{cap}
+use Rattle.layout.specs.States.{entry_in, entries_of, state_of}
 use Rattle.layout.proofs.RowLaws.{length_rows, get_d_rows, get_d_past}
-use Rattle.open_sets.specs.declared.entry.SetId.{SetId}
 use Rattle.open_sets.specs.declared.entry.Entry.{Entry}
 use Rattle.open_sets.specs.declared.entry_rows.EntryRow.{EntryRow}
-use Rattle.open_sets.specs.Entries.{maybe_set_of, HeldSet, entry_with, ReadsEntry}
-use Rattle.std.specs.Prelude as rust
-
--- ---- words of a row
--- every sort from 3 on is the last one
-pub value_last : (sort e : ℕ) → (sort ≡ 0 → ⊥) → (sort ≡ 1 → ⊥) → (sort ≡ 2 → ⊥) → some (inherit_from e) ≡ value_of sort e
-unfolding value_of
-value_last sort e a b c = rw (ne_eqb sort 0 a, ne_eqb sort 1 b, ne_eqb sort 2 c)
-
-pub set_held : (m : rust.Option SetId) (t : SetId) → m ≡ rust.Some t → HeldSet m → marked t.0 ≡ maybe_set_of m
-unfolding HeldSet maybe_set_of marked
-set_held m t e h = let l : t.0 < absent = rw e at h in rw (e, ne_eqb t.0 absent (λ z. omega arith))
+use Rattle.open_sets.specs.Entries.{entry_with, ReadsEntry}
 
 -- ---- the table
 pub length_entries : (s : List ℕ) → length (entries_of s) ≡ cap (word s entry_count) entry_limit

@@ -30,9 +30,6 @@ module _ {test : ℕ → Bool} {n : ℕ} where
       go true q = sym (r.rises i j h l q) ∙ p
       go false q = refl
 
-  pub halved_none : Halved test n 0 n
-  halved_none = record { apart = omega arith; within = omega arith; fails = λ j h. absurd (omega arith); passes = λ j h l. absurd (omega arith) }
-
   -- the test passes in the middle, or it fails there
   pub halved_left : {low high : ℕ} (middle : ℕ) → Rising test n → Halved test n low high → low ≤ middle → middle < high → test middle ≡ true
       → Halved test n low middle
@@ -48,7 +45,3 @@ module _ {test : ℕ → Bool} {n : ℕ} where
         fails = λ j k. falls r j middle (omega arith) (omega (arith, g.within)) p;
         passes = g.passes;
       }
-
-  pub halved_done : {low high : ℕ} → Halved test n low high → high ≤ low → Begins test n low
-  halved_done g h =
-      record { within = omega (arith, g.apart, g.within); fails = g.fails; passes = λ j k l. g.passes j (omega (arith, g.apart)) l }

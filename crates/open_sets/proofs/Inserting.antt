@@ -6,8 +6,9 @@ use native.Mathlib.Omega.{arith}
 use lib.ListN.{length, get_or, take, drop}
 use Rattle.words.specs.Order.{pick, order}
 use Rattle.spec.proofs.general.Sums.{All, all_map, all_at}
-use Rattle.open_sets.specs.Ranks.{is_greater, insert_by}
+use Rattle.open_sets.specs.Ranks.{insert_by}
 use Rattle.open_sets.proofs.RankOrder.{Le, Gt, either, le_refl, gt_le, le_trans, le_gt}
+use Rattle.std.specs.Ordering.{is_gt}
 
 -- each item is no greater than those after it
 abbrev pub Ascending : {A : Type 0} → (A → List ℕ) → List A → Type 0
@@ -17,7 +18,7 @@ Ascending key (x ∷ xs) = All (λ y. Le (key x) (key y)) xs × Ascending key xs
 -- before the first that is greater
 unfoldable pub insert_last : {A : Type 0} → (A → List ℕ) → A → List A → List A
 insert_last key x [] = x ∷ []
-insert_last key x (y ∷ ys) = pick (is_greater (order (key y) (key x))) (x ∷ y ∷ ys) (y ∷ insert_last key x ys)
+insert_last key x (y ∷ ys) = pick (is_gt (order (key y) (key x))) (x ∷ y ∷ ys) (y ∷ insert_last key x ys)
 
 module _ {A : Type 0} (key : A → List ℕ) where
   -- ---- one step

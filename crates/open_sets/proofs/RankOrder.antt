@@ -13,21 +13,22 @@ use Rattle.words.proofs.OrderLaws.{order_refl, order_equal, order_flip, order_tr
 use Rattle.spec.specs.State.{MergingEntry}
 use Rattle.spec.specs.Merge.{set_of}
 use Rattle.spec.proofs.general.BoolLaws.{differ}
-use Rattle.open_sets.specs.Ranks.{class_of, key_of, standing, rank, is_less, is_greater, before, after}
+use Rattle.open_sets.specs.Ranks.{class_of, key_of, standing, rank, before, after}
+use Rattle.std.specs.Ordering.{is_gt, is_lt}
 
 -- ---- lists of bytes
 -- the first is less, or the same
 abbrev pub Le : List ℕ → List ℕ → Type 0
-Le a b = is_greater (order a b) ≡ false
+Le a b = is_gt (order a b) ≡ false
 
 abbrev pub Gt : List ℕ → List ℕ → Type 0
-Gt a b = is_greater (order a b) ≡ true
+Gt a b = is_gt (order a b) ≡ true
 
 -- one of the two holds
 pub either : {C : Type 0} (a b : List ℕ) → (Le a b → C) → (Gt a b → C) → C
-either {C} a b f g = go (is_greater (order a b)) refl
+either {C} a b f g = go (is_gt (order a b)) refl
   where
-    go : (t : Bool) → is_greater (order a b) ≡ t → C
+    go : (t : Bool) → is_gt (order a b) ≡ t → C
     go true p = g p
     go false p = f p
 
@@ -36,11 +37,9 @@ pub not_both : {C : Type 0} (a b : List ℕ) → Le a b → Gt a b → C
 not_both a b p q = differ (sym q ∙ p)
 
 pub le_refl : (a : List ℕ) → Le a a
-unfolding is_greater
 le_refl a = rw (order_refl a)
 
 pub gt_order : (a b : List ℕ) → Gt a b → order a b ≡ Greater
-unfolding is_greater
 gt_order a b h = go (order a b) refl
   where
     go : (o : Ordering) → order a b ≡ o → order a b ≡ Greater
@@ -49,21 +48,18 @@ gt_order a b h = go (order a b) refl
     go Greater p = p
 
 -- the lists change places
-pub less_is_greater : (a b : List ℕ) → is_less (order a b) ≡ is_greater (order b a)
-unfolding is_greater is_less
+pub less_is_greater : (a b : List ℕ) → is_lt (order a b) ≡ is_gt (order b a)
 less_is_greater a b = rw (order_flip a b) (go (order a b))
   where
-    go : (o : Ordering) → is_less o ≡ is_greater (ordering_reverse o)
+    go : (o : Ordering) → is_lt o ≡ is_gt (ordering_reverse o)
     go Less = refl
     go Equal = refl
     go Greater = refl
 
 pub gt_le : (a b : List ℕ) → Gt a b → Le b a
-unfolding is_greater
 gt_le a b h = rw (order_flip a b, gt_order a b h)
 
 pub le_trans : (a b d : List ℕ) → Le a b → Le b d → Le a d
-unfolding is_greater
 le_trans a b d h k = go (order a b) (order b d) refl refl
   where
     go : (o p : Ordering) → order a b ≡ o → order b d ≡ p → Le a d
@@ -79,7 +75,6 @@ le_gt a b d h k = either b d (λ l. not_both a d (le_trans a b d h l) k) (λ g. 
 
 -- neither is greater
 pub le_both : (a b : List ℕ) → Le a b → Le b a → a ≡ b
-unfolding is_greater
 le_both a b h k = go (order a b) refl
   where
     go : (o : Ordering) → order a b ≡ o → a ≡ b
@@ -99,16 +94,16 @@ unfolding rank standing
 class_below x y e h = order_same (set_of x) (set_of y) (class_of x ∷ key_of x) (class_of y ∷ key_of y) e ∙ order_lt (class_of x) (class_of y) (key_of x) (key_of y) h
 
 pub less_le : (x y : MergingEntry) → rank x y ≡ Less → Le (standing x) (standing y)
-unfolding rank is_greater
+unfolding rank
 less_le x y h = rw h
 
 pub less_gt : (x y : MergingEntry) → rank x y ≡ Less → Gt (standing y) (standing x)
-unfolding rank is_greater
+unfolding rank
 less_gt x y h = rw (order_flip (standing x) (standing y), h)
 
 -- nothing is of a lower set where it is not before
 pub set_le : (x y : MergingEntry) → Le (standing x) (standing y) → set_of x ≤ set_of y
-unfolding is_greater standing
+unfolding standing
 set_le x y h = go (ltb (set_of y) (set_of x)) refl
   where
     go : (t : Bool) → ltb (set_of y) (set_of x) ≡ t → set_of x ≤ set_of y
@@ -128,5 +123,5 @@ unfolding after rank
 after_gt x y h = h
 
 pub after_less : (x y : MergingEntry) → rank x y ≡ Less → after x y ≡ false
-unfolding after is_greater
+unfolding after
 after_less x y h = rw h

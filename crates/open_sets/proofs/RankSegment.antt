@@ -16,12 +16,13 @@ use Rattle.spec.specs.Basics.{ExprId}
 use Rattle.spec.specs.State.{SetId, MergingEntry, static, source, dynamic}
 use Rattle.spec.specs.Merge.{set_of, Static, here_or_later, insert_static, statics_of, sources_of, dynamics_of}
 use Rattle.spec.proofs.general.Sums.{All, all_append}
-use Rattle.open_sets.specs.Ranks.{class_of, key_of, standing, rank, is_greater, insert_by, Numbered, standing_of, ranked_from, sorted, InOrder, placed, static_entry, dynamic_entry, in_classes, segment}
+use Rattle.open_sets.specs.Ranks.{class_of, key_of, standing, rank, insert_by, Numbered, standing_of, ranked_from, sorted, InOrder, placed, static_entry, dynamic_entry, in_classes, segment}
 use Rattle.open_sets.proofs.RankOrder.{Le, le_refl, class_below, less_le, less_gt}
 use Rattle.open_sets.proofs.Inserting.{Ascending, insert_first, insert_append, insert_past, insert_map}
 use Rattle.open_sets.proofs.Halving.{Begins}
 use Rattle.open_sets.proofs.Passing.{keep, tested, keep_part, insert_out, insert_in}
 use Rattle.open_sets.proofs.RankLaws.{nobody, Numbers, ranked_numbers, length_ranked, ranked_ascending, placed_ranked}
+use Rattle.std.specs.Ordering.{is_gt}
 
 -- ---- a set's entries as they stand
 all_of_map : {A B : Type 0} (P : B → Type 0) (f : A → B) → ((x : A) → P (f x)) → (xs : List A) → All P (map f xs)
@@ -48,18 +49,18 @@ module _ (s : SetId) where
   by_key x y = order_same s s (0 ∷ x.key) (0 ∷ y.key) refl ∙ order_same 0 0 x.key y.key refl
 
   static_insert : (x : Static) (ys : List Static) → insert_static x ys ≡ insert_by (λ y. standing (static_entry s y)) x ys
-  unfolding insert_static insert_by here_or_later is_greater
+  unfolding insert_static insert_by here_or_later
   static_insert x [] = refl
   static_insert x (y ∷ ys) = go (static_insert x ys)
     where
-      chosen : (o : Ordering) (a b : List Static) → here_or_later o a b ≡ pick (is_greater o) b a
+      chosen : (o : Ordering) (a b : List Static) → here_or_later o a b ≡ pick (is_gt o) b a
       chosen Less a b = refl
       chosen Equal a b = refl
       chosen Greater a b = refl
 
       go : insert_static x ys ≡ insert_by (λ z. standing (static_entry s z)) x ys
           → here_or_later (order x.key y.key) (x ∷ y ∷ ys) (y ∷ insert_static x ys)
-          ≡ pick (is_greater (order (standing (static_entry s x)) (standing (static_entry s y)))) (y ∷ insert_by (λ z. standing (static_entry s z)) x ys) (x ∷ y ∷ ys)
+          ≡ pick (is_gt (order (standing (static_entry s x)) (standing (static_entry s y)))) (y ∷ insert_by (λ z. standing (static_entry s z)) x ys) (x ∷ y ∷ ys)
       go rest = rw (rest, by_key x y) (chosen (order x.key y.key) (x ∷ y ∷ ys) (y ∷ insert_by (λ z. standing (static_entry s z)) x ys))
 
   module _ (statics : List Static) (sources : List ExprId) (dynamics : List (ExprId × ExprId)) where

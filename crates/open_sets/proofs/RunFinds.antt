@@ -2,55 +2,28 @@
 use mathlib.Core.Path.{◌≡◌, refl, sym, ◌∙◌}
 use mathlib.Core.Bool.{Bool, true, false, not}
 use mathlib.Core.List.{List}
-use mathlib.Core.Option.{none, some}
 use Prim.Native.Nat.{ℕ, ◌≤◌, ◌<◌}
-use native.Mathlib.Omega.{arith}
-use lib.ListN.{length, get_or}
+use lib.ListN.{length}
 use lib.Dec.{ltb}
 use borrow.Author.Tests.{lt-ltb, le-ltb, ltb-true, ltb-false}
 use Rattle.words.specs.Order.{order}
-use Rattle.std.specs.declared.cmp.Ordering.{Ordering}
-use Rattle.std.specs.declared.cmp.Ordering.TheVariants.{Less, Equal, Greater}
 use Rattle.words.proofs.OrderLaws.{order_refl, order_equal}
 use Rattle.spec.specs.Basics.{Text}
 use Rattle.spec.specs.State.{MergingEntry}
 use Rattle.spec.specs.Merge.{is_at, find}
-use Rattle.spec.proofs.general.BoolLaws.{differ}
 use Rattle.layout.specs.Texts.{text_in}
 use Rattle.layout.specs.States.{entries_of, state_of, order_of}
 use Rattle.open_sets.specs.declared.standing.Standing.{Standing}
 use Rattle.open_sets.specs.Ranks.{class_of, key_of, standing, rank, before, InOrder, placed}
-use Rattle.open_sets.specs.Run.{standing_with, stops_at, Place, is_equal, found_at}
+use Rattle.open_sets.specs.Run.{class_number, standing_with, stops_at, Place, found_at}
 use Rattle.open_sets.proofs.Halving.{Begins}
 use Rattle.open_sets.proofs.RankFind.{probe, is_at_standing, standing_is_at, find_past, find_other, find_there}
 use Rattle.open_sets.proofs.RunReads.{stops_at_lem}
-
--- ---- what was found at a place
-module _ (s : List ℕ) (j n : ℕ) (p : Standing) (en : n ≡ length (entries_of s)) where
-  module _ (o : Ordering) (h : j < n) (said : o ≡ order (standing (placed (entries_of s) (order_of s) j)) (standing_with s p)) where
-    within : ltb j (length (entries_of s)) ≡ true
-    within = lt-ltb j (length (entries_of s)) (omega arith)
-
-    pub found_not : is_equal o ≡ false → none ≡ found_at s j p
-    unfolding found_at
-    found_not e = rw (within, ← said, e)
-
-    pub found_here : (i : ℕ) → is_equal o ≡ true → i ≡ get_or (order_of s) j 0 → some i ≡ found_at s j p
-    unfolding found_at
-    found_here i e q = rw (within, ← said, e, q)
-
-  pub found_past : n ≤ j → none ≡ found_at s j p
-  unfolding found_at
-  found_past h = rw (le-ltb j (length (entries_of s)) (omega arith))
+use Rattle.std.specs.Ordering.{is_eq}
+use Rattle.std.specs.Cmp.{Equal-is}
 
 -- ---- at the first place that does not stand before the key
-equal_is : (o : Ordering) → is_equal o ≡ true → o ≡ Equal
-unfolding is_equal
-equal_is Less h = differ (sym h)
-equal_is Equal h = refl
-equal_is Greater h = differ (sym h)
-
-module _ (s : List ℕ) (set : ℕ) (p : Standing) (q : ℕ) (whose : p.set ≡ set) (class : p.class ≡ 0) (place : Place false p s q) (o : InOrder (entries_of s) (order_of s)) where
+module _ (s : List ℕ) (set : ℕ) (p : Standing) (q : ℕ) (whose : p.set ≡ set) (class : class_number p.class ≡ 0) (place : Place false p s q) (o : InOrder (entries_of s) (order_of s)) where
   abbrev key : Text
   key = text_in s p.key.0
 
@@ -68,10 +41,10 @@ module _ (s : List ℕ) (set : ℕ) (p : Standing) (q : ℕ) (whose : p.set ≡ 
   abbrev here : MergingEntry
   here = placed (entries_of s) (order_of s) q
 
-  finds_at : (b : Bool) → q < length (entries_of s) → is_equal (order (standing here) (standing (probe set key))) ≡ b → found_at s q p ≡ find set key (state_of s)
-  unfolding found_at state_of is_equal
+  finds_at : (b : Bool) → q < length (entries_of s) → is_eq (order (standing here) (standing (probe set key))) ≡ b → found_at s q p ≡ find set key (state_of s)
+  unfolding found_at state_of
   finds_at true h e =
-      let same = order_equal (standing here) (standing (probe set key)) (equal_is _ e) in
+      let same = order_equal (standing here) (standing (probe set key)) ((Equal-is _).0 e) in
       rw (lt-ltb q (length (entries_of s)) h, looked_for, e) (sym (find_there set key (state_of s) q o begins h (standing_is_at set key here same)))
   finds_at false h e = rw (lt-ltb q (length (entries_of s)) h, looked_for, e) (sym (find_other set key (state_of s) q o begins h (other (is_at set key here) refl)))
     where

@@ -16,13 +16,14 @@ use Rattle.spec.proofs.general.BoolLaws.{differ}
 use Rattle.layout.specs.Texts.{text_in}
 use Rattle.layout.specs.States.{entries_of, order_of}
 use Rattle.open_sets.specs.declared.standing.Standing.{Standing}
-use Rattle.open_sets.specs.Ranks.{class_of, key_of, standing, is_greater, InOrder, placed, segment}
-use Rattle.open_sets.specs.Run.{standing_with, stops_at, Place, while_of, run_from}
+use Rattle.open_sets.specs.Ranks.{class_of, key_of, standing, InOrder, placed, segment}
+use Rattle.open_sets.specs.Run.{class_number, standing_with, stops_at, Place, while_of, run_from}
 use Rattle.open_sets.proofs.RankOrder.{Le, not_both, less_is_greater, set_le}
 use Rattle.open_sets.proofs.RankLaws.{run_le}
 use Rattle.open_sets.proofs.Halving.{Begins}
 use Rattle.open_sets.proofs.RankSegment.{run_segment}
 use Rattle.open_sets.proofs.RunReads.{length_order, stops_at_lem}
+use Rattle.std.specs.Ordering.{is_gt}
 
 -- ---- those of a set that stand together
 abbrev at : List MergingEntry → ℕ → MergingEntry
@@ -50,16 +51,16 @@ together set es (i ∷ is) = go (together set es is) (eqb (set_of (at es i)) set
     go t false e = record { k = 0; few = omega arith; taken = rw e; inside = λ j h. absurd (omega arith); after = λ h. eqb-false (set_of (at es i)) set e }
 
 -- ---- nothing of a set stands before its static with the empty key
-first_key : (key : List ℕ) → is_greater (order [] key) ≡ false
-unfolding order is_greater
+first_key : (key : List ℕ) → is_gt (order [] key) ≡ false
+unfolding order
 first_key [] = refl
 first_key (x ∷ key) = refl
 
 least : (set : ℕ) (x : MergingEntry) → set ≤ set_of x → Le (set ∷ 0 ∷ []) (standing x)
-unfolding standing is_greater
+unfolding standing
 least set x h = go (ltb set (set_of x)) (ltb 0 (class_of x)) refl refl
   where
-    go : (a b : Bool) → ltb set (set_of x) ≡ a → ltb 0 (class_of x) ≡ b → is_greater (order (set ∷ 0 ∷ []) (set_of x ∷ class_of x ∷ key_of x)) ≡ false
+    go : (a b : Bool) → ltb set (set_of x) ≡ a → ltb 0 (class_of x) ≡ b → is_gt (order (set ∷ 0 ∷ []) (set_of x ∷ class_of x ∷ key_of x)) ≡ false
     go true b p q = rw (order_lt set (set_of x) (0 ∷ []) (class_of x ∷ key_of x) (ltb-true set (set_of x) p))
     go false true p q =
         let e : set ≡ set_of x = omega (arith, ltb-false set (set_of x) p) in
@@ -70,19 +71,19 @@ least set x h = go (ltb set (set_of x)) (ltb 0 (class_of x)) refl refl
         rw (order_same set (set_of x) (0 ∷ []) (class_of x ∷ key_of x) e, order_same 0 (class_of x) [] (key_of x) f) (first_key (key_of x))
 
 at_least : (set : ℕ) (x : MergingEntry) → Le (set ∷ 0 ∷ []) (standing x) → set ≤ set_of x
-unfolding standing is_greater
+unfolding standing
 at_least set x h = go (ltb (set_of x) set) refl
   where
     go : (a : Bool) → ltb (set_of x) set ≡ a → set ≤ set_of x
     go true p = differ (rw (order_gt set (set_of x) (0 ∷ []) (class_of x ∷ key_of x) (ltb-true (set_of x) set p)) at h)
     go false p = ltb-false (set_of x) set p
 
-module _ (s : List ℕ) (set : ℕ) (p : Standing) (q : ℕ) (whose : p.set ≡ set) (class : p.class ≡ 0) (empty : text_in s p.key.0 ≡ []) (place : Place false p s q)
+module _ (s : List ℕ) (set : ℕ) (p : Standing) (q : ℕ) (whose : p.set ≡ set) (class : class_number p.class ≡ 0) (empty : text_in s p.key.0 ≡ []) (place : Place false p s q)
     (o : InOrder (entries_of s) (order_of s)) where
   abbrev there : ℕ → MergingEntry
   there j = placed (entries_of s) (order_of s) j
 
-  test : (j : ℕ) → stops_at false p s j ≡ not (is_greater (order (set ∷ 0 ∷ []) (standing (there j))))
+  test : (j : ℕ) → stops_at false p s j ≡ not (is_gt (order (set ∷ 0 ∷ []) (standing (there j))))
   unfolding stops_at standing_with
   test j = rw (whose, class, empty) (stops_at_lem (order (standing (there j)) (set ∷ 0 ∷ [])) ∙ ap not (less_is_greater (standing (there j)) (set ∷ 0 ∷ [])))
 

@@ -1,9 +1,9 @@
 -- The run: the numbers of the entries that are being merged, in the order of their sets, within a set statics, then
 -- sources, then dynamics, and statics in the byte order of their keys. Of equal ones the earlier number stands first.
-use Rattle.std.specs.Prelude.{◌≡◌, Bool, true, false, List, [], ◌∷◌, ◌++◌, map, ℕ, suc, get_or, if◌then◌else◌}
+use Rattle.std.specs.Prelude.{◌≡◌, Bool, List, [], ◌∷◌, ◌++◌, map, ℕ, suc, get_or, if◌then◌else◌}
 use Rattle.words.specs.Order.{order}
 use Rattle.std.specs.declared.cmp.Ordering.{Ordering}
-use Rattle.std.specs.declared.cmp.Ordering.TheVariants.{Less, Equal, Greater}
+use Rattle.std.specs.Ordering.{is_lt, is_gt}
 use Rattle.spec.specs.Basics.{Text, ExprId}
 use Rattle.spec.specs.State.{SetId, MergingEntry, static, source, dynamic}
 use Rattle.spec.specs.Merge.{set_of, Static, statics_of, sources_of, dynamics_of}
@@ -27,27 +27,17 @@ unfoldable pub rank : MergingEntry → MergingEntry → Ordering
 rank x y = order (standing x) (standing y)
 
 -- the same as tests
-unfoldable pub is_less : Ordering → Bool
-is_less Less = true
-is_less Equal = false
-is_less Greater = false
-
-unfoldable pub is_greater : Ordering → Bool
-is_greater Less = false
-is_greater Equal = false
-is_greater Greater = true
-
 unfoldable pub before : MergingEntry → MergingEntry → Bool
-before x y = is_less (rank x y)
+before x y = is_lt (rank x y)
 
 unfoldable pub after : MergingEntry → MergingEntry → Bool
-after x y = is_greater (rank x y)
+after x y = is_gt (rank x y)
 
 -- ---- a list in the order of what its items have for a key
 -- before the first that is not less
 unfoldable pub insert_by : {A : Type 0} → (A → List ℕ) → A → List A → List A
 insert_by key x [] = x ∷ []
-insert_by key x (y ∷ ys) = if is_greater (order (key x) (key y)) then y ∷ insert_by key x ys else x ∷ y ∷ ys
+insert_by key x (y ∷ ys) = if is_gt (order (key x) (key y)) then y ∷ insert_by key x ys else x ∷ y ∷ ys
 
 -- an entry and its number
 abbrev pub Numbered : Type 0

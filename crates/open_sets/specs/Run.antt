@@ -6,6 +6,7 @@ use Rattle.words.specs.Order.{order}
 use Rattle.words.specs.Words.{word}
 use Rattle.std.specs.declared.cmp.Ordering.{Ordering}
 use Rattle.std.specs.declared.cmp.Ordering.TheVariants.{Less, Equal, Greater}
+use Rattle.std.specs.Ordering.{is_eq}
 use Rattle.spec.specs.State.{SetId, MergingEntry, source, State, add_entry}
 use Rattle.spec.specs.Merge.{set_of}
 use Rattle.layout.specs.Layout.{entry_limit, entry_count, run_at}
@@ -17,11 +18,19 @@ use Rattle.open_sets.specs.Ranks.{standing, InOrder, placed}
 use Rattle.open_sets.specs.Entries.{entry_with}
 use Rattle.open_sets.specs.declared.entry.Entry.{Entry}
 use Rattle.open_sets.specs.declared.standing.Standing.{Standing}
+use Rattle.open_sets.specs.declared.standing.Class.{Class}
+use Rattle.open_sets.specs.declared.standing.Class.TheVariants.{Static, Source, Dynamic}
 use Rattle.std.specs.Prelude as rust
 
 -- ---- where entries stand
+-- statics, then sources, then dynamics
+abbrev pub class_number : Class → ℕ
+class_number Static = 0
+class_number Source = 1
+class_number Dynamic = 2
+
 unfoldable pub standing_with : List ℕ → Standing → List ℕ
-standing_with s p = p.set ∷ p.class ∷ text_in s p.key.0
+standing_with s p = p.set ∷ class_number p.class ∷ text_in s p.key.0
 
 -- p is where the entry stands, in any store
 pub record Stands (p : Standing) (e : Entry) : Type 0 where
@@ -50,15 +59,10 @@ unfoldable pub maybe_entry_of : rust.Option ℕ → Option ℕ
 maybe_entry_of (rust.Some i) = some i
 maybe_entry_of rust.None = none
 
-unfoldable pub is_equal : Ordering → Bool
-is_equal Less = false
-is_equal Equal = true
-is_equal Greater = false
-
 -- the number at the place j of the run, if the entry there stands where p does
 unfoldable pub found_at : List ℕ → ℕ → Standing → Option ℕ
 found_at s j p =
-    if ltb j (length (entries_of s)) then (if is_equal (order (standing (placed (entries_of s) (order_of s) j)) (standing_with s p)) then some (get_or (order_of s) j 0) else none)
+    if ltb j (length (entries_of s)) then (if is_eq (order (standing (placed (entries_of s) (order_of s) j)) (standing_with s p)) then some (get_or (order_of s) j 0) else none)
     else none
 
 -- ---- the entries of a set

@@ -8,8 +8,8 @@ use crate::entries::put_entry;
 use crate::entry::Entry;
 use crate::run::place;
 use crate::standing::standing_of;
+use layout::counter;
 use layout::tables::{ENTRY_COUNT, ENTRY_LIMIT, RUN};
-use layout::{counter, wide};
 use module::Counter;
 use words::{move_run, put32};
 
@@ -19,14 +19,15 @@ fn insert_number(store: &mut [u8], q: u32, count: Counter)
     ensures { Inserted q count.used store.old store.new }
 {
     let next = count.next();
-    let at = RUN + 4 * wide(q);
-    let after = wide(count.used - q);
+    let at = RUN + 4 * q as usize;
+    let after = (count.used - q) as usize;
     move_run(store, at, at + 4, 4 * after);
     put32(store, at, count.used);
     put32(store, ENTRY_COUNT, next.used);
 }
 
 // Of equal ones the earlier stands first, so it comes after those that stand where it does.
+#[tactic(auto, using(module::proofs::CounterLaws::room_gone, crate::proofs::RunAdds::not_entered))]
 pub fn add_entry(store: &mut [u8], e: Entry)
     requires { Long store.old × Storable e }
     ensures { Entered (entry_with store.old e) store.old store.new }

@@ -8,12 +8,14 @@ ghost use Rattle.store.specs.Work.{Did};
 ghost use Rattle.open_sets.specs.Entries.{entry_with, Storable, PutEntry, change};
 
 use crate::entry::{Entry, SetId};
-use crate::entry_rows::{EntryRow, binding_words, entry_of, entry_row};
+use crate::entry_rows::{EntryRow, ValueWords, entry_row};
 use layout::tables::{ENTRIES, ENTRY_COUNT, ENTRY_LIMIT, ENTRY_ROW};
-use layout::{at_most, put_words, wide};
+use layout::{at_most, put_words};
 use module::{BindingValue, ExprId};
 use words::{get32, put32};
 
+// A line of its own: that it counts the entries is an equation about their table alone.
+#[tactic(auto, using(crate::proofs::EntryLaws::entries_counted))]
 pub fn entry_count(store: &[u8]) -> u32
     requires { Long store.now }
     ensures { (result ≡ length (entries_of store.now)) × (result ≤ entry_limit) }
@@ -22,6 +24,7 @@ pub fn entry_count(store: &[u8]) -> u32
 }
 
 // Out of range it is as in the definitions.
+#[tactic(auto, using(crate::proofs::EntryLaws::entry_out, crate::proofs::EntryLaws::entry_read), unfolding(crate::specs::Entries::entry_with))]
 pub fn entry_at(store: &[u8], i: u32) -> Entry
     requires { Long store.now }
     ensures { entry_with store.now result ≡ entry_at i (state_of store.now) }
@@ -29,8 +32,8 @@ pub fn entry_at(store: &[u8], i: u32) -> Entry
     if entry_count(store) <= i {
         return Entry::Source(SetId(0), ExprId(0));
     }
-    let at = ENTRIES + ENTRY_ROW * wide(i);
-    entry_of(EntryRow {
+    let at = ENTRIES + ENTRY_ROW * i as usize;
+    Entry::from(EntryRow {
         tag: get32(store, at),
         set: get32(store, at + 4),
         a: get32(store, at + 8),
@@ -47,30 +50,32 @@ pub fn put_entry(store: &mut [u8], n: u32, e: Entry)
     ensures { PutEntry n e store.old store.new }
 {
     let row = entry_row(e);
-    let at = ENTRIES + ENTRY_ROW * wide(n);
+    let at = ENTRIES + ENTRY_ROW * n as usize;
     put_words(store, at, [row.tag, row.set, row.a, row.b, row.nested]);
     put_words(store, at + 20, [row.sort, row.value]);
 }
 
 // Only a static entry has a value; in a row of another sort its words are free.
+#[tactic(auto, using(crate::proofs::ChangeLaws::change_out))]
 pub fn set_value(store: &mut [u8], i: u32, v: BindingValue)
     requires { Long store.old }
     ensures { Did (change i (with_value (binding_of v))) store.old tt store.new }
 {
     if i < entry_count(store) {
-        let words = binding_words(v);
-        let at = ENTRIES + ENTRY_ROW * wide(i);
+        let words = ValueWords::from(v);
+        let at = ENTRIES + ENTRY_ROW * i as usize;
         put_words(store, at + 20, [words.sort, words.value]);
     }
 }
 
 // The mark can't be the number of a set. As for a value, the word is free where there is none.
+#[tactic(auto, using(crate::proofs::ChangeLaws::change_out))]
 pub fn set_nested(store: &mut [u8], i: u32, t: SetId)
     requires { Long store.old × (t.0 < absent) }
     ensures { Did (change i (with_nested t.0)) store.old tt store.new }
 {
     if i < entry_count(store) {
-        let at = ENTRIES + ENTRY_ROW * wide(i);
+        let at = ENTRIES + ENTRY_ROW * i as usize;
         put32(store, at + 16, t.0);
     }
 }

@@ -1,5 +1,7 @@
-// How an entry lies in its row, and how it is read from one. Every row gives something, whatever it
-// holds.
+// How an entry lies in its row, and how it is read from one. Every row gives something, whatever it holds: tags and
+// sorts are words of bytes that anybody may write, so they are numbers, and become enums here alone.
+#![tactic(auto, unfolding(crate::specs::Entries::maybe_set_of, crate::specs::Entries::maybe_value_of, crate::specs::Entries::entry_with, crate::specs::Entries::HeldSet, crate::specs::Entries::Storable, layout::specs::Rows::marked, layout::specs::States::value_of, layout::specs::States::entry_of, module::specs::Ids::binding_of))]
+
 ghost use Rattle.std.specs.Prelude.{Some, ◌≡◌};
 ghost use Rattle.layout.specs.Rows.{marked};
 ghost use Rattle.layout.specs.States.{value_of};
@@ -49,19 +51,20 @@ fn value_of(sort: u32, value: u32) -> Option<BindingValue>
     }
 }
 
-pub fn entry_of(row: EntryRow) -> Entry
-    ensures { ReadsEntry row result }
-{
-    let tag = row.tag;
-    let set = SetId(row.set);
-    match tag {
-        0 => {
-            let nested = set_of(row.nested);
-            let value = value_of(row.sort, row.value);
-            Entry::Static(set, TextId(row.a), NameId(row.b), nested, value)
+impl From<EntryRow> for Entry {
+    ghost from_gives = { λ row entry. ReadsEntry row entry };
+
+    fn from(row: EntryRow) -> Entry {
+        let set = SetId(row.set);
+        match row.tag {
+            0 => {
+                let nested = set_of(row.nested);
+                let value = value_of(row.sort, row.value);
+                Entry::Static(set, TextId(row.a), NameId(row.b), nested, value)
+            }
+            1 => Entry::Source(set, ExprId(row.a)),
+            _ => Entry::Dynamic(set, ExprId(row.a), ExprId(row.b)),
         }
-        1 => Entry::Source(set, ExprId(row.a)),
-        _ => Entry::Dynamic(set, ExprId(row.a), ExprId(row.b)),
     }
 }
 
@@ -75,34 +78,39 @@ fn set_number(s: Option<SetId>) -> u32
     }
 }
 
-pub fn binding_words(v: BindingValue) -> ValueWords
-    ensures { value_of result.sort result.value ≡ maybe_value_of (Some v) }
-{
-    match v {
-        BindingValue::Expr(e) => ValueWords {
-            sort: 1,
-            value: e.0,
-        },
-        BindingValue::Inherit(e) => ValueWords {
-            sort: 2,
-            value: e.0,
-        },
-        BindingValue::InheritFrom(e) => ValueWords {
-            sort: 3,
-            value: e.0,
-        },
+impl From<BindingValue> for ValueWords {
+    ghost from_gives = { λ v words. value_of words.sort words.value ≡ maybe_value_of (Some v) };
+
+    fn from(v: BindingValue) -> ValueWords {
+        match v {
+            BindingValue::Expr(e) => ValueWords {
+                sort: 1,
+                value: e.0,
+            },
+            BindingValue::Inherit(e) => ValueWords {
+                sort: 2,
+                value: e.0,
+            },
+            BindingValue::InheritFrom(e) => ValueWords {
+                sort: 3,
+                value: e.0,
+            },
+        }
     }
 }
 
-fn value_words(v: Option<BindingValue>) -> ValueWords
-    ensures { value_of result.sort result.value ≡ maybe_value_of v }
-{
-    match v {
-        Some(b) => binding_words(b),
-        None => ValueWords { sort: 0, value: 0 },
+impl From<Option<BindingValue>> for ValueWords {
+    ghost from_gives = { λ v words. value_of words.sort words.value ≡ maybe_value_of v };
+
+    fn from(v: Option<BindingValue>) -> ValueWords {
+        match v {
+            Some(b) => ValueWords::from(b),
+            None => ValueWords { sort: 0, value: 0 },
+        }
     }
 }
 
+// No `From`, which may ask nothing: the number of a nested set must not be the mark.
 pub fn entry_row(e: Entry) -> EntryRow
     requires { Storable e }
     ensures { SaysEntry result e }
@@ -110,7 +118,7 @@ pub fn entry_row(e: Entry) -> EntryRow
     match e {
         Entry::Static(s, key, x, nested, value) => {
             let n = set_number(nested);
-            let words = value_words(value);
+            let words = ValueWords::from(value);
             EntryRow {
                 tag: 0,
                 set: s.0,

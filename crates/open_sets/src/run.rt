@@ -11,25 +11,26 @@ ghost use Rattle.open_sets.specs.Run.{standing_with, stops, Place, maybe_entry_o
 
 use crate::entries::{entry_at, entry_count};
 use crate::entry::{Entry, SetId};
-use crate::standing::{Standing, compare_standings, standing_of};
+use crate::standing::{Class, Standing, compare_standings, standing_of};
 use layout::tables::{ABSENT, RUN};
-use layout::wide;
 use module::TextId;
 use std::cmp::Ordering;
 use words::get32;
 
 // The number of the entry at the place j; past the end 0.
+#[tactic(auto, using(crate::proofs::RunReads::number_here, crate::proofs::RunReads::number_past))]
 fn in_run(store: &[u8], j: u32) -> u32
     requires { Long store.now }
     ensures { result ≡ get_or (order_of store.now) j 0 }
 {
     if j < entry_count(store) {
-        return get32(store, RUN + 4 * wide(j));
+        return get32(store, RUN + 4 * j as usize);
     }
     0
 }
 
 // How the entry at the place j stands to p.
+#[tactic(auto, using(crate::proofs::RunReads::compared))]
 fn compare_at(store: &[u8], j: u32, p: Standing) -> Ordering
     requires { Long store.now }
     ensures { result ≡ order (standing (placed (entries_of store.now) (order_of store.now) j)) (standing_with store.now p) }
@@ -38,15 +39,13 @@ fn compare_at(store: &[u8], j: u32, p: Standing) -> Ordering
     compare_standings(store, standing_of(e), p)
 }
 
-// Whether the search below stops at an entry that compares so.
+// Whether the search below stops at an entry that compares so. The bool turns one comparison: a closure in its place
+// would say the same in more words.
+#[tactic(auto, unfolding(crate::specs::Run::stops))]
 fn stops(o: Ordering, past: bool) -> bool
     ensures { result ≡ stops past o }
 {
-    match o {
-        Ordering::Less => false,
-        Ordering::Equal => !past,
-        Ordering::Greater => true,
-    }
+    if past { o.is_gt() } else { o.is_ge() }
 }
 
 // The first place whose entry stands after p; or, if `past` is false, not before p.
@@ -69,28 +68,26 @@ pub fn place(store: &[u8], p: Standing, past: bool) -> u32
 }
 
 // The entry at the place j, if it stands where p does.
+#[tactic(auto, unfolding(crate::specs::Run::maybe_entry_of, crate::specs::Run::found_at))]
 fn found_at(store: &[u8], j: u32, p: Standing) -> Option<u32>
     requires { Long store.now }
     ensures { maybe_entry_of result ≡ found_at store.now j p }
 {
-    if j < entry_count(store) {
-        return match compare_at(store, j, p) {
-            Ordering::Less => None,
-            Ordering::Equal => Some(in_run(store, j)),
-            Ordering::Greater => None,
-        };
+    if j < entry_count(store) && compare_at(store, j, p).is_eq() {
+        return Some(in_run(store, j));
     }
     None
 }
 
 // The number of the entry that has the key in the set.
+#[tactic(auto, using(crate::proofs::RunFinds::finds))]
 pub fn find(store: &[u8], s: SetId, key: TextId) -> Option<u32>
     requires { Long store.now }
     ensures { InOrder (entries_of store.now) (order_of store.now) → maybe_entry_of result ≡ merge.find s.0 (text_in store.now key.0) (state_of store.now) }
 {
     let p = Standing {
         set: s.0,
-        class: 0,
+        class: Class::Static,
         key,
     };
     let j = place(store, p, false);
@@ -104,13 +101,14 @@ pub fn first_of(store: &[u8], s: SetId) -> u32
 {
     let p = Standing {
         set: s.0,
-        class: 0,
+        class: Class::Static,
         key: TextId(ABSENT),
     };
     place(store, p, false)
 }
 
 // The entry at the place j, if it is one of the set.
+#[tactic(auto, using(crate::proofs::RunSets::next_past, crate::proofs::RunSets::next_other, crate::proofs::RunSets::next_here))]
 pub fn entry_of(store: &[u8], s: SetId, j: u32) -> Option<Entry>
     requires { Long store.now }
     ensures { NextInRun store.now s.0 j result }

@@ -11,10 +11,12 @@ ghost use Rattle.open_sets.specs.Entries.{open_set, cut_to};
 use crate::entries::entry_count;
 use crate::entry::SetId;
 use layout::tables::{SET_COUNT, SET_LIMIT, SET_ROW, SETS};
-use layout::{at_most, counter, get_pointer, put_pointer, put_words, wide};
+use layout::{at_most, counter, get_pointer, put_pointer, put_words};
 use module::{NameKind, Pointer};
 use words::{get32, put32};
 
+// A line of its own: that it counts the sets is an equation about their table alone.
+#[tactic(auto, using(crate::proofs::SetLaws::sets_counted))]
 pub fn set_count(store: &[u8]) -> u32
     requires { Long store.now }
     ensures { (result ≡ length (sets_of store.now)) × (result ≤ set_limit) }
@@ -23,13 +25,14 @@ pub fn set_count(store: &[u8]) -> u32
 }
 
 // MergingSet::new
+#[tactic(auto, using(module::proofs::CounterLaws::room_gone, crate::proofs::SetLaws::sets_full))]
 pub fn open_set(store: &mut [u8], kind: NameKind, p: Pointer) -> SetId
     requires { Long store.old }
     ensures { Did (open_set (kind_of kind) (pointer_of p)) store.old result.0 store.new × (result.0 ≤ set_limit) }
 {
     let count = counter(store, SET_COUNT);
     if count.has_room(SET_LIMIT) {
-        let at = SETS + SET_ROW * wide(count.used);
+        let at = SETS + SET_ROW * count.used as usize;
         let number = kind.number();
         let next = count.next();
         put_pointer(store, at, p);
@@ -41,21 +44,19 @@ pub fn open_set(store: &mut [u8], kind: NameKind, p: Pointer) -> SetId
 }
 
 // A set out of range is as in the definitions, a plain one at 0.
+#[tactic(auto, using(crate::proofs::SetLaws::set_pointer_in, crate::proofs::SetLaws::set_out), unfolding(module::specs::Ids::pointer_of))]
 pub fn set_pointer(store: &[u8], s: SetId) -> Pointer
     requires { Long store.now }
     ensures { pointer_of result ≡ (set_at s.0 (state_of store.now)).pointer }
 {
     let n = s.0;
     if set_count(store) <= n {
-        return Pointer {
-            kind: 0,
-            from: 0,
-            to: 0,
-        };
+        return Pointer::default();
     }
-    get_pointer(store, SETS + SET_ROW * wide(n))
+    get_pointer(store, SETS + SET_ROW * n as usize)
 }
 
+#[tactic(auto, using(crate::proofs::SetLaws::set_kind_in, crate::proofs::SetLaws::set_out), unfolding(module::specs::Kinds::kind_of))]
 pub fn set_name_kind(store: &[u8], s: SetId) -> NameKind
     requires { Long store.now }
     ensures { kind_of result ≡ (set_at s.0 (state_of store.now)).name_kind }
@@ -64,7 +65,7 @@ pub fn set_name_kind(store: &[u8], s: SetId) -> NameKind
     if set_count(store) <= n {
         return NameKind::PlainAttrset;
     }
-    NameKind::from(get32(store, SETS + SET_ROW * wide(n) + 12))
+    NameKind::from(get32(store, SETS + SET_ROW * n as usize + 12))
 }
 
 // At most so many sets and entries stay. The run has a place for each entry, and keeps as many.
@@ -74,5 +75,5 @@ pub fn cut(store: &mut [u8], sets: u32, entries: u32)
 {
     let s = at_most(set_count(store), sets);
     let e = at_most(entry_count(store), entries);
-    put_words(store, 36, [s, e]);
+    put_words(store, SET_COUNT, [s, e]);
 }

@@ -10,52 +10,52 @@ use module::TextId;
 use std::cmp::Ordering;
 use texts::compare_texts;
 
+// Statics come first, then sources, then dynamics.
+#[derive(Clone, Copy, PartialEq, Eq, PartialOrd, Ord)]
+pub enum Class {
+    Static,
+    Source,
+    Dynamic,
+}
+
 #[derive(Clone, Copy)]
 pub struct Standing {
     pub set: u32,
-    // 0 static, 1 source, 2 dynamic.
-    pub class: u32,
+    pub class: Class,
     pub key: TextId,
 }
 
 // Sources and dynamics have no key.
+#[tactic(auto, using(layout::proofs::Frames::text_absent), unfolding(crate::specs::Run::standing_with, crate::specs::Ranks::standing, crate::specs::Ranks::class_of, crate::specs::Ranks::key_of, crate::specs::Entries::entry_with))]
 pub fn standing_of(e: Entry) -> Standing
     ensures { Stands result e }
 {
     match e {
         Entry::Static(s, key, _, _, _) => Standing {
             set: s.0,
-            class: 0,
+            class: Class::Static,
             key,
         },
         Entry::Source(s, _) => Standing {
             set: s.0,
-            class: 1,
+            class: Class::Source,
             key: TextId(ABSENT),
         },
         Entry::Dynamic(s, _, _) => Standing {
             set: s.0,
-            class: 2,
+            class: Class::Dynamic,
             key: TextId(ABSENT),
         },
     }
 }
 
+#[tactic(auto, using(crate::proofs::RunReads::standings_compared))]
 pub fn compare_standings(store: &[u8], x: Standing, y: Standing) -> Ordering
     requires { Long store.now }
     ensures { result ≡ order (standing_with store.now x) (standing_with store.now y) }
 {
-    if x.set < y.set {
-        return Ordering::Less;
-    }
-    if y.set < x.set {
-        return Ordering::Greater;
-    }
-    if x.class < y.class {
-        return Ordering::Less;
-    }
-    if y.class < x.class {
-        return Ordering::Greater;
-    }
-    compare_texts(store, x.key, y.key)
+    x.set
+        .cmp(&y.set)
+        .then(x.class.cmp(&y.class))
+        .then_with(|| compare_texts(store, x.key, y.key))
 }

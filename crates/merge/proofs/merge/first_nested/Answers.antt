@@ -1,13 +1,8 @@
 -- `merge::merge::first_nested` meets its contract.
 use Rattle.merge.proofs.KeySteps.{nested_first}
 use Rattle.module.specs.Kinds.{kind_of}
-use Rattle.open_sets.specs.Entries.{entry_with, Storable, HeldSet, maybe_set_of, maybe_value_of}
-use native.Mathlib.Omega.{arith}
+use Rattle.open_sets.specs.Entries.{entry_with, maybe_set_of, maybe_value_of}
 use Rattle.merge.proofs.merge.first_nested.Goals as goal
-
-pub add_entry-requires : goal.add_entry-requires
-unfolding Storable HeldSet
-add_entry-requires c = (omega arith, omega (arith, c.open_set-t.ensures.1))
 
 pub returns : goal.returns
 unfolding kind_of entry_with maybe_set_of maybe_value_of

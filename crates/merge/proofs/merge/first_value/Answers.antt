@@ -1,12 +1,7 @@
 -- `merge::merge::first_value` meets its contract.
 use Rattle.merge.proofs.KeySteps.{value_first}
-use Rattle.open_sets.specs.Entries.{entry_with, Storable, HeldSet, maybe_set_of, maybe_value_of}
-use native.Mathlib.Omega.{arith}
+use Rattle.open_sets.specs.Entries.{entry_with, maybe_set_of, maybe_value_of}
 use Rattle.merge.proofs.merge.first_value.Goals as goal
-
-pub add_entry-requires : goal.add_entry-requires
-unfolding Storable HeldSet
-add_entry-requires c = (omega arith, tt)
 
 pub returns : goal.returns
 unfolding entry_with maybe_set_of maybe_value_of

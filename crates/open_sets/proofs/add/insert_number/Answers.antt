@@ -4,8 +4,5 @@ use mathlib.Core.Path.{◌∙◌}
 use native.Mathlib.Omega.{arith}
 use Rattle.open_sets.proofs.add.insert_number.Goals as goal
 
-pub next-next-requires : goal.next-next-requires
-next-next-requires c = omega (arith, c.requires.1.1)
-
 pub returns : goal.returns
 returns c = number_inserted _ _ _ _ _ _ _ _ c.requires.0 c.requires.1.0 c.requires.1.1 (omega arith) (omega arith) c.move_run.ensures c.put32.ensures (c.put32-2.ensures ∙ rw c.next-next.ensures)
