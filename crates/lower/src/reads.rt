@@ -6,7 +6,7 @@ ghost use Rattle.layout.specs.Texts.{text_in};
 ghost use Rattle.std.proofs.Math.Option.{some};
 ghost use Rattle.spec.specs.Keys.{flag, kid_of};
 ghost use Rattle.module.specs.Ids.{node_of};
-ghost use Rattle.lower.specs.Reads.{HasParam, pattern_of, NextIn, FirstEntry, GoesInto};
+ghost use Rattle.lower.specs.Reads.{HasParam, pattern_of, FirstEntry, GoesInto};
 
 use intake::{kid, node_flag, syntax_kind};
 use keys::next_item;
@@ -75,12 +75,27 @@ pub fn param_of(store: &[u8], place: Option<NodeId>) -> Param
     }
 }
 
-// The next item of a place that may be absent.
-pub fn next_in(store: &[u8], place: Option<NodeId>, i: u32) -> Option<(NodeId, u32)>
-    requires { Long store.now }
-    ensures { NextIn (nodes_of store.now) i (node_of place) result }
-{
-    next_item(store, place?, i)
+// What is left of an attribute path: its attributes from place `after` on. A path that is absent has none.
+#[derive(Clone, Copy)]
+pub struct Rest {
+    pub path: Option<NodeId>,
+    pub after: u32,
+}
+
+impl Rest {
+    ghost use Rattle.layout.specs.Layout.{Long};
+    ghost use Rattle.layout.specs.Nodes.{nodes_of};
+    ghost use Rattle.lower.specs.Reads.{NextIn};
+
+    // The first attribute, and what is then left.
+    pub fn next(self, store: &[u8]) -> Option<(NodeId, Rest)>
+        requires { Long store.now }
+        ensures { NextIn (nodes_of store.now) self result }
+    {
+        let n = self.path?;
+        let (a, after) = next_item(store, n, self.after)?;
+        Some((a, Rest { after, ..self }))
+    }
 }
 
 // Where the entries begin: a LetIn has its body first.

@@ -302,20 +302,20 @@ list-returns t c = list_taken _ _ _ c.waiting_count-base.ensures c.node_pointer-
 -- ---- nest
 
 pub nest-returns : goal.nest-returns
-nest-returns t c = nest_lowers _ _ _ _ _ _ c.set_count-sets.ensures.0 c.entry_count-open.ensures.0 c.open_set-t.ensures.0 c.nested.ensures c.finish_nested-e.ensures c.cut.ensures
+nest-returns t c = nest_lowers _ _ _ _ _ c.set_count-sets.ensures.0 c.entry_count-open.ensures.0 c.open_set-t.ensures.0 c.nested.ensures c.finish_nested-e.ensures c.cut.ensures
 
 -- ---- nested
 
 pub nested-step-requires : goal.nested-step-requires
-nested-step-requires t c = let f = in_first _ _ _ _ c.next_in.ensures _ _ c.in-Some.is in (omega (arith, c.decreases, f.onward, f.inside), omega (arith, c.requires))
+nested-step-requires t c = let f = in_first _ _ _ c.next.ensures _ _ c.in-Some.is in (omega (arith, c.decreases, f.onward, f.inside), omega (arith, c.requires))
 
 pub nested-returns-in-None : goal.nested-returns-in-None
 unfolding NextIn
-nested-returns-in-None t c = nested_last _ _ _ _ _ _ (rw c.in-None.is at c.next_in.ensures) c.last.ensures
+nested-returns-in-None t c = nested_last _ _ _ _ _ (rw c.in-None.is at c.next.ensures) c.last.ensures
 
 pub nested-returns-in-Some : goal.nested-returns-in-Some
 unfolding NextIn
-nested-returns-in-Some t c = nested_before _ _ _ _ _ _ (rw c.in-Some.is at c.next_in.ensures) c.step.ensures
+nested-returns-in-Some t c = nested_before _ _ _ _ _ (rw c.in-Some.is at c.next.ensures) c.step.ensures
 
 -- ---- opt
 
@@ -383,11 +383,11 @@ push-returns t c = dynamic_pushed _ _ _ _ c.opt-k.ensures c.opt-v.ensures c.add_
 
 pub put-returns-in-None : goal.put-returns-in-None
 unfolding NextIn
-put-returns-in-None t c = attrpath_none _ _ _ _ (two_places _ _ c.kid-first.ensures c.kid-second.ensures) (rw c.in-None.is at c.next_in.ensures) c.push.ensures
+put-returns-in-None t c = attrpath_none _ _ _ _ (two_places _ _ c.kid-first.ensures c.kid-second.ensures) (rw c.in-None.is at c.next.ensures) c.push.ensures
 
 pub put-returns-in-Some : goal.put-returns-in-Some
 unfolding NextIn
-put-returns-in-Some t c = attrpath_there _ _ _ _ (two_places _ _ c.kid-first.ensures c.kid-second.ensures) (rw c.in-Some.is at c.next_in.ensures) c.nested.ensures
+put-returns-in-Some t c = attrpath_there _ _ _ _ (two_places _ _ c.kid-first.ensures c.kid-second.ensures) (rw c.in-Some.is at c.next.ensures) c.nested.ensures
 
 -- ---- set
 
@@ -409,10 +409,10 @@ src-returns t c = source_there _ _ _ _ _ _ c.in_ok-place.was c.kid-inner.ensures
 -- ---- step
 
 pub step-returns-in-Static : goal.step-returns-in-Static
-step-returns-in-Static t c = step_static _ _ _ _ c.attr_kind.ensures _ c.node_pointer-p.ensures _ _ _ _ _ c.in-Static.is c.get_or_create_nested_static-t.ensures c.nested.ensures
+step-returns-in-Static t c = step_static _ _ _ _ c.attr_kind.ensures _ c.node_pointer-p.ensures _ _ _ _ c.in-Static.is c.get_or_create_nested_static-t.ensures c.nested.ensures
 
 pub step-returns-in-Dynamic : goal.step-returns-in-Dynamic
-step-returns-in-Dynamic t c = step_dynamic _ _ _ _ c.attr_kind.ensures _ c.node_pointer-p.ensures _ _ _ _ _ c.in-Dynamic.is c.nest-e.ensures c.opt-made.ensures c.add_dynamic.ensures
+step-returns-in-Dynamic t c = step_dynamic _ _ _ _ c.attr_kind.ensures _ c.node_pointer-p.ensures _ _ _ _ c.in-Dynamic.is c.nest-e.ensures c.opt-made.ensures c.add_dynamic.ensures
 
 -- ---- str
 
