@@ -6,6 +6,8 @@
 //
 // `store`, `depth` and the set `s` are no struct: the store is the host's memory, which every call here writes, `depth`
 // is what the proof that the calls end counts down, and only the functions of sets have an `s`.
+#![tactic(auto, unfolding(rows::specs::Decoded::ValidExpr, module::specs::Literals::Valid))]
+
 ghost use Rattle.std.specs.Prelude.{◌≡◌, ◌∷◌, map, suc, ◌+◌, ◌≤◌};
 ghost use Rattle.spec.specs.Keys.{items, kind};
 ghost use Rattle.spec.specs.Steps.{each};

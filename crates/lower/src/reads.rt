@@ -24,6 +24,7 @@ pub struct Param {
 }
 
 // A kid of a place that may be absent itself.
+#[tactic(auto, unfolding(module::specs::Ids::node_of, spec::specs::Keys::kid_of))]
 fn kid_of(store: &[u8], place: Option<NodeId>) -> Option<NodeId>
     requires { Long store.now }
     ensures { node_of result ≡ kid_of (nodes_of store.now) 0 (node_of place) }
@@ -31,6 +32,8 @@ fn kid_of(store: &[u8], place: Option<NodeId>) -> Option<NodeId>
     kid(store, place?, 0)
 }
 
+// A flag stays a number, as in the definitions: what it says goes by the kind of its node.
+#[tactic(auto, unfolding(crate::specs::Reads::pattern_of))]
 fn pattern_kind(store: &[u8], n: NodeId) -> Pattern
     requires { Long store.now }
     ensures { pattern_of result ≡ some (eqb (flag (nodes_of store.now) n.0) 1) }
@@ -61,6 +64,7 @@ fn param_node(store: &[u8], n: NodeId) -> Param
     }
 }
 
+#[tactic(auto, unfolding(module::specs::Ids::node_of, crate::specs::Reads::ident_of, crate::specs::Reads::owner_of, crate::specs::Reads::ellipsis_of, crate::specs::Reads::pattern_of))]
 pub fn param_of(store: &[u8], place: Option<NodeId>) -> Param
     requires { Long store.now }
     ensures { HasParam (nodes_of store.now) (node_of place) result }
@@ -88,6 +92,7 @@ impl Rest {
     ghost use Rattle.lower.specs.Reads.{NextIn};
 
     // The first attribute, and what is then left.
+    #[tactic(auto, unfolding(module::specs::Ids::node_of, crate::specs::Reads::NextIn, keys::specs::Items::Next, crate::specs::Reads::attrs_from))]
     pub fn next(self, store: &[u8]) -> Option<(NodeId, Rest)>
         requires { Long store.now }
         ensures { NextIn (nodes_of store.now) self result }
