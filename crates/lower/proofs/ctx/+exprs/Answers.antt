@@ -7,7 +7,7 @@ use Rattle.lower.proofs.KindLaws.{too_deep, none_arm, pair_arm, cond_arm, select
 use Rattle.lower.proofs.LambdaLaws.{field_lowers, lambda_lowers}
 use Rattle.lower.proofs.LeafLaws.{ident_lowers, name_lowers}
 use Rattle.lower.proofs.ListedLaws.{attr_dynamic, attr_string, attr_ident, select_lowers, has_lowers, part_text, part_expr, path_parts, path_literal, string_literal, string_parts}
-use Rattle.lower.proofs.LoopLaws.{attrpath_absent, attrpath_start, attrpath_end, attr_waits, entries_start, fields_absent, fields_start, fields_end, inherits_start, inherits_end, list_start, list_taken, item_waits, parts_start}
+use Rattle.lower.proofs.LoopLaws.{attrpath_absent, attrpath_start, attrpath_end, attr_waits, entries_start, fields_absent, fields_start, fields_end, inherits_end, list_start, list_taken, item_waits, parts_start}
 use Rattle.lower.proofs.Loops.{gathering_turn, gathering_skip, gathering_end, merging_turn, merging_skip, merging_end}
 use Rattle.lower.proofs.MergeLaws.{entry_inherit, entry_attrpath, inherit_static, inherit_dynamic, bindings_none, bindings_there, keyed_merged, keyed_other, value_static, value_dynamic, nested_last, nested_before, dynamic_pushed, attrpath_none, attrpath_there, source_there, source_none, step_static, step_dynamic}
 use Rattle.lower.proofs.ReadLaws.{in_first}
@@ -205,9 +205,6 @@ pub heir-returns-in-Dynamic : goal.heir-returns-in-Dynamic
 heir-returns-in-Dynamic t c = inherit_dynamic _ _ _ _ c.attr_kind.ensures _ _ c.in-Dynamic.is c.push.ensures
 
 -- ---- inherit
-
-pub inherit-loop-i-init : goal.inherit-loop-i-init
-inherit-loop-i-init t c = inherits_start _ _ _ _ _
 
 pub inherit-loop-i-preserved : goal.inherit-loop-i-preserved
 inherit-loop-i-preserved t c =
