@@ -52,9 +52,6 @@ pub record Passed (nodes : List Node) (n : NodeId) (i at : ℕ) : Type 0 where
   pub low : i ≤ at
   pub same : items_from nodes i n ≡ items_from nodes at n
 
-pub passed_none : (nodes : List Node) (n : NodeId) (i : ℕ) → Passed nodes n i i
-passed_none nodes n i = record { low = omega arith; same = refl }
-
 module _ {nodes : List Node} {n : NodeId} {i at : ℕ} (p : Passed nodes n i at) (count : ℕ) (c : count ≡ length (node_at nodes n).kids) where
   pub passed_end : count ≤ at → Next nodes i n rust.None
   unfolding Next

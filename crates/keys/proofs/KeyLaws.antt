@@ -4,40 +4,23 @@ use mathlib.Core.Bool.{true, false}
 use mathlib.Core.List.{List, [], ◌∷◌}
 use mathlib.Core.Option.{Option, none, some}
 use Prim.Native.Nat.{ℕ}
-use lib.Dec.{eqb}
 use borrow.Author.Tests.{eq-eqb, ne_eqb}
 use Rattle.spec.specs.Basics.{Text, NodeId, ExprId}
 use Rattle.spec.specs.Sheet.{Node}
 use Rattle.spec.specs.Keys as spec
 use Rattle.spec.specs.Keys.{kind, flag, text, kid, items, flatten_paren, literal_of, get_str_literal, str_key, inside_dynamic, attr_kind}
 use Rattle.spec.specs.Lower.{has_interpolation}
-use Rattle.spec.specs.Module.{PlainAttrset, RecAttrset}
 use Rattle.spec.specs.State.{SetId, Low}
 use Rattle.module.specs.Ids.{node_of}
 use Rattle.module.specs.declared.ids.NodeId as code_id
-use Rattle.module.specs.declared.ids.TextId as code_text
 use Rattle.layout.specs.Layout.{absent}
-use Rattle.layout.specs.Texts.{text_in, maybe_text}
+use Rattle.layout.specs.Texts.{text_in}
 use Rattle.layout.proofs.Frames.{text_absent}
 use Rattle.keys.specs.Items.{items_from, First, Next}
-use Rattle.keys.specs.AstUtils.{ident_name, set_kind, Interpolated}
-use Rattle.keys.proofs.AnswerLaws.{text_there, text_missing}
+use Rattle.keys.specs.AstUtils.{Interpolated}
 use Rattle.keys.proofs.ItemLaws.{items_are, next_first, next_is}
-use Rattle.std.specs.Option.{is_some, IfSome}
+use Rattle.std.specs.Option.{is_some}
 use Rattle.std.specs.Prelude as rust
-
--- ---- by the flag of a node
-module _ (nodes : List Node) (n : NodeId) (f : ℕ) (e : f ≡ flag nodes n) where
-  pub ident_named : (s : List ℕ) (r : rust.Option code_text.TextId) → is_some r ≡ eqb f 1 → IfSome r (λ t. text_in s t.0 ≡ text nodes n) → maybe_text s r ≡ ident_name nodes n
-  unfolding maybe_text
-  ident_named s rust.None v x = rw (← e, ← v)
-  ident_named s (rust.Some t) v x = rw (← e, ← v) (ap some x)
-
-  pub set_rec : f ≡ 1 → RecAttrset ≡ set_kind nodes n
-  set_rec h = rw (← e, eq-eqb f 1 h)
-
-  pub set_plain : (f ≡ 1 → ⊥) → PlainAttrset ≡ set_kind nodes n
-  set_plain h = rw (← e, ne_eqb f 1 h)
 
 -- ---- the parts of a Str
 module _ (nodes : List Node) (n : NodeId) where
@@ -93,21 +76,8 @@ module _ {nodes : List Node} {n : NodeId} {at : ℕ} (s : Seeking nodes n at) wh
     seeking_more h = record { same = λ lower merge. s.same lower merge ∙ rw (a, ne_eqb (kind nodes p) 33 h) }
 
 -- ---- keys
-module _ (s : List ℕ) (nodes : List Node) (n : NodeId) (m : rust.Option code_text.TextId) (e : maybe_text s m ≡ get_str_literal nodes n) where
-  pub key_text : (t : code_text.TextId) → m ≡ rust.Some t → spec.static_key (text_in s t.0) ≡ str_key nodes n
-  unfolding str_key
-  key_text t q = rw (text_there s m (get_str_literal nodes n) e t q)
-
-  pub key_parts : m ≡ rust.None → spec.dynamic_key (some n) ≡ str_key nodes n
-  unfolding str_key
-  key_parts q = rw (text_missing s m (get_str_literal nodes n) e q)
-
 module _ (nodes : List Node) where
   module _ (m : rust.Option code_id.NodeId) where
-    pub inside_none : m ≡ rust.None → spec.dynamic_key (node_of m) ≡ inside_dynamic nodes (node_of m)
-    unfolding inside_dynamic node_of
-    inside_none q = rw q
-
     module _ (n : code_id.NodeId) (q : m ≡ rust.Some n) (k : ℕ) (e : k ≡ kind nodes n.0) where
       pub inside_str : k ≡ 6 → {r : spec.AttrKind} → r ≡ str_key nodes n.0 → r ≡ inside_dynamic nodes (node_of m)
       unfolding inside_dynamic node_of

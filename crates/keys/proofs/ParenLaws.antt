@@ -34,9 +34,6 @@ module _ (nodes : List Node) where
 pub record Flattening (nodes : List Node) (place cur : rust.Option code_id.NodeId) (left : ℕ) : Type 0 where
   pub same : flatten_paren nodes 256 (node_of place) ≡ flatten_paren nodes left (node_of cur)
 
-pub flattening_start : (nodes : List Node) (place : rust.Option code_id.NodeId) → Flattening nodes place place 256
-flattening_start nodes place = record { same = refl }
-
 module _ {nodes : List Node} {place cur : rust.Option code_id.NodeId} {left : ℕ} (f : Flattening nodes place cur left) where
   pub flattened_none : cur ≡ rust.None → none ≡ flatten_paren nodes 256 (node_of place)
   unfolding node_of

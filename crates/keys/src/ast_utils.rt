@@ -43,7 +43,9 @@ pub fn flatten_paren(store: &[u8], place: Option<NodeId>) -> Option<NodeId>
     cur
 }
 
-// The name of an Ident, where it has one.
+// The name of an Ident, where it has one. A flag stays a number, as in the definitions: what it says goes by the kind of its
+// node.
+#[tactic(auto, unfolding(layout::specs::Texts::maybe_text))]
 pub fn name_of_ident(store: &[u8], n: NodeId) -> Option<TextId>
     requires { Long store.now }
     ensures { maybe_text store.now result ≡ ident_name (nodes_of store.now) n.0 }
@@ -67,6 +69,7 @@ pub fn get_str_literal(store: &[u8], n: NodeId) -> Option<TextId>
     Some(node_text(store, part))
 }
 
+#[tactic(auto, unfolding(module::specs::Kinds::kind_of))]
 pub fn name_kind_of_set(store: &[u8], n: NodeId) -> NameKind
     requires { Long store.now }
     ensures { kind_of result ≡ set_kind (nodes_of store.now) n.0 }
@@ -94,6 +97,7 @@ pub fn has_interpolation(store: &[u8], n: NodeId) -> bool
 }
 
 // The key that a Str is.
+#[tactic(auto, unfolding(crate::specs::AstUtils::attr_kind_of, module::specs::Ids::node_of, layout::specs::Texts::maybe_text, spec::specs::Keys::str_key))]
 fn str_key(store: &[u8], n: NodeId) -> AttrKind
     requires { Long store.now }
     ensures { attr_kind_of store.now result ≡ str_key (nodes_of store.now) n.0 }
@@ -105,6 +109,7 @@ fn str_key(store: &[u8], n: NodeId) -> AttrKind
 }
 
 // The key that a Dynamic is, by what stands inside its Parens: a Str, but no Ident, can be a static key there.
+#[tactic(auto, unfolding(crate::specs::AstUtils::attr_kind_of, module::specs::Ids::node_of, spec::specs::Keys::inside_dynamic))]
 fn inside_dynamic(store: &[u8], place: Option<NodeId>) -> AttrKind
     requires { Long store.now }
     ensures { attr_kind_of store.now result ≡ inside_dynamic (nodes_of store.now) (node_of place) }

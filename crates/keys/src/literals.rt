@@ -47,6 +47,7 @@ fn bits_in(store: &[u8], t: TextId) -> u64
 
 // The literal that a Float is, where it has one, which flag 1 says. Bits above those of infinity are in no
 // accepted sheet, and give none.
+#[tactic(auto, unfolding(crate::specs::Literals::float_held, crate::specs::Literals::literal_given, crate::specs::Literals::ValidGiven, module::specs::Literals::literal_of, module::specs::Literals::Valid))]
 fn float_literal(store: &[u8], n: NodeId) -> Option<Literal>
     requires { Long store.now }
     ensures { LiteralRead store.now (float_held (nodes_of store.now) n.0) result }
@@ -61,7 +62,9 @@ fn float_literal(store: &[u8], n: NodeId) -> Option<Literal>
     Some(Literal::Float(float_of(bits)))
 }
 
-// The literal that an Integer is, where it is an i64.
+// The literal that an Integer is, where it is an i64. No `try_from`: `integer_of` says in the definitions' numbers
+// which integer it gives.
+#[tactic(auto, unfolding(crate::specs::Literals::integer_held, crate::specs::Literals::literal_given, crate::specs::Literals::ValidGiven, module::specs::Literals::literal_of, module::specs::Literals::Valid))]
 fn integer_literal(store: &[u8], n: NodeId) -> Option<Literal>
     requires { Long store.now }
     ensures { LiteralRead store.now (integer_held (nodes_of store.now) n.0) result }
@@ -74,6 +77,7 @@ fn integer_literal(store: &[u8], n: NodeId) -> Option<Literal>
 }
 
 // The literal that a node of the kind is: that of a Float or an Integer, and none for the other kinds.
+#[tactic(auto, unfolding(crate::specs::Literals::literal_held, crate::specs::Literals::literal_given, crate::specs::Literals::ValidGiven))]
 pub fn literal_of(store: &[u8], n: NodeId, kind: Option<SyntaxKind>) -> Option<Literal>
     requires { Long store.now }
     ensures { LiteralRead store.now (literal_held (nodes_of store.now) kind n.0) result }

@@ -41,7 +41,8 @@ use Rattle.merge.specs.Finishes.{binding_items, Begins, ExprsOnly, Finished, Fin
 use Rattle.merge.proofs.Steps.{nodes_still, then_open, fits}
 use Rattle.merge.proofs.SetSteps.{opened, opened_below}
 use Rattle.lower.specs.Sizes.{sized, sizes, place}
-use Rattle.lower.specs.Reads.{attrs_from}
+use Rattle.lower.specs.Reads.{attrs_left}
+use Rattle.lower.specs.declared.reads.Rest.{Rest}
 use Rattle.lower.specs.Parts.{lower_at, merge_at}
 use Rattle.lower.proofs.WaitLaws.{all_collect}
 use Rattle.module.specs.declared.ids.NodeId as rust_node_id
@@ -256,16 +257,16 @@ desugar_lowers depth kind n p {s = s} {u} {v} {x} {t} {r} i j q opens y f d =
     (above_bindings ns depth (kind_of kind) (pointer_of p) n) (loads_few v r) i j opens (y.at ns (waiting_of s)) (f.at (waiting_of s)) d))
 
 -- the nested set of a key that is not static
-pub nest_lowers : (depth : ℕ) (p : code_pointer.Pointer) (way : rust.Option rust_node_id.NodeId) (n : NodeId) (after : ℕ) (value : rust.Option rust_node_id.NodeId) {a b : ℕ} {s u v x t : List ℕ} {r : SetId} {e : ExprId}
+pub nest_lowers : (depth : ℕ) (p : code_pointer.Pointer) (n : NodeId) (rest : Rest) (value : rust.Option rust_node_id.NodeId) {a b : ℕ} {s u v x t : List ℕ} {r : SetId} {e : ExprId}
     → a ≡ length (sets_of s) → b ≡ length (entries_of s) → Did (open_set (kind_of code_kinds.PlainAttrset) (pointer_of p)) s r u
-    → Lowering (suc r) (λ nodes. sized nodes n + (sizes nodes (attrs_from nodes after (node_of way)) + place nodes (node_of value))) nothing
-    (λ nodes. merge_nested_attr_value nodes (lower_at depth nodes) (merge_at depth nodes) r n (attrs_from nodes after (node_of way)) (node_of value)) u tt v
+    → Lowering (suc r) (λ nodes. sized nodes n + (sizes nodes (attrs_left nodes rest) + place nodes (node_of value))) nothing
+    (λ nodes. merge_nested_attr_value nodes (lower_at depth nodes) (merge_at depth nodes) r n (attrs_left nodes rest) (node_of value)) u tt v
     → Finishing (load (entries_of v) (length (sets_of v)) r) (finish_expr r) v e x → Did (cut_to a b) x tt t
-    → Lowering 0 (λ nodes. sized nodes n + (sizes nodes (attrs_from nodes after (node_of way)) + place nodes (node_of value))) one_set
-    (λ nodes. inner (new_nested (pointer_of p) >>= λ set. merge_nested_attr_value nodes (lower_at depth nodes) (merge_at depth nodes) set n (attrs_from nodes after (node_of way)) (node_of value) >>= λ _. finish_expr set)) s e t
+    → Lowering 0 (λ nodes. sized nodes n + (sizes nodes (attrs_left nodes rest) + place nodes (node_of value))) one_set
+    (λ nodes. inner (new_nested (pointer_of p) >>= λ set. merge_nested_attr_value nodes (lower_at depth nodes) (merge_at depth nodes) set n (attrs_left nodes rest) (node_of value) >>= λ _. finish_expr set)) s e t
 unfolding new_nested kind_of
-nest_lowers depth p way n after value {v = v} {r = r} i j opens y f d = record {
+nest_lowers depth p n rest value {v = v} {r = r} i j opens y f d = record {
   at = λ nodes w.
-      built PlainAttrset (pointer_of p) (λ set. merge_nested_attr_value nodes (lower_at depth nodes) (merge_at depth nodes) set n (attrs_from nodes after (node_of way)) (node_of value)) finish_expr
-      (above_nested nodes depth (pointer_of p) n (attrs_from nodes after (node_of way)) (node_of value)) (load_few v r) i j opens (y.at nodes w) (f.at w) d;
+      built PlainAttrset (pointer_of p) (λ set. merge_nested_attr_value nodes (lower_at depth nodes) (merge_at depth nodes) set n (attrs_left nodes rest) (node_of value)) finish_expr
+      (above_nested nodes depth (pointer_of p) n (attrs_left nodes rest) (node_of value)) (load_few v r) i j opens (y.at nodes w) (f.at w) d;
 }

@@ -156,9 +156,6 @@ InheritsLeft depth into set n s i u =
     Merging (suc into) (λ nodes k. inherit_attr nodes (lower_at depth nodes) (merge_at depth nodes) into set k) (some n)
     (λ t. Merges (nodes_of s) (suc into) (λ nodes k. inherit_attr nodes (lower_at depth nodes) (merge_at depth nodes) into set k) (attrs_from (nodes_of s) 1 (some n)) s t) s i u
 
-pub inherits_start : (depth : ℕ) (into : SetId) (set : Option ExprId) (n : NodeId) (s : List ℕ) → InheritsLeft depth into set n s 1 s
-inherits_start depth into set n s = record { long = refl; nodes_are = refl; whole = λ t r. r }
-
 pub inherits_end : (depth : ℕ) (into : SetId) (n : NodeId) (from : rust.Option rust_node_id.NodeId) (set : rust.Option code_id.ExprId) {s u : List ℕ} {i : ℕ} {t : List ℕ} → node_of from ≡ kid (nodes_of s) 0 n
     → Lowering (suc into) (λ nodes. place nodes (node_of from)) nothing (λ nodes. inherit_source nodes (lower_at depth nodes) (merge_at depth nodes) into (node_of from)) s (expr_of set) u
     → InheritsLeft depth into (expr_of set) n u i t → {count : ℕ} → count ≡ length (node_at (nodes_of u) n).kids → count ≤ i

@@ -40,7 +40,8 @@ use Rattle.merge.specs.Merges.{value_price, nested_price, inherit_price, Inherit
 use Rattle.merge.proofs.Steps.{then_open, gave, asked, as_step, yes_when, no_when, fits, all_lower}
 use Rattle.merge.proofs.KeySteps.{nested_open}
 use Rattle.lower.specs.Sizes.{sized, below, sizes, place, heft}
-use Rattle.lower.specs.Reads.{attrs_from, FirstIn, nested_for, into_of, GoesInto}
+use Rattle.lower.specs.Reads.{attrs_left, FirstIn, nested_for, into_of, GoesInto}
+use Rattle.lower.specs.declared.reads.Rest.{Rest}
 use Rattle.lower.specs.Parts.{lower_at, merge_at}
 use Rattle.lower.proofs.ChildLaws.{Children, HasChildren}
 use Rattle.lower.proofs.SizeLaws.{heft_place, own_and_below, kid_below, three_below}
@@ -63,21 +64,21 @@ abbrev pub AttrValue : ℕ → SetId → NodeId → rust.Option code_node.NodeId
 AttrValue depth set n value s t =
     Lowering (suc set) (λ nodes. sized nodes n + place nodes (node_of value)) nothing (λ nodes. merge_attr_value nodes (lower_at depth nodes) (merge_at depth nodes) set n (node_of value)) s tt t
 
--- the attribute n, and then those of a path
-abbrev pub Nested : ℕ → SetId → rust.Option code_node.NodeId → NodeId → ℕ → rust.Option code_node.NodeId → List ℕ → List ℕ → Type 0
-Nested depth set way n after value s t =
-    Lowering (suc set) (λ nodes. sized nodes n + (sizes nodes (attrs_from nodes after (node_of way)) + place nodes (node_of value))) nothing
-    (λ nodes. merge_nested_attr_value nodes (lower_at depth nodes) (merge_at depth nodes) set n (attrs_from nodes after (node_of way)) (node_of value)) s tt t
+-- the attribute n, and then the rest of its path
+abbrev pub Nested : ℕ → SetId → NodeId → Rest → rust.Option code_node.NodeId → List ℕ → List ℕ → Type 0
+Nested depth set n rest value s t =
+    Lowering (suc set) (λ nodes. sized nodes n + (sizes nodes (attrs_left nodes rest) + place nodes (node_of value))) nothing
+    (λ nodes. merge_nested_attr_value nodes (lower_at depth nodes) (merge_at depth nodes) set n (attrs_left nodes rest) (node_of value)) s tt t
 
-abbrev pub Step : ℕ → SetId → rust.Option code_node.NodeId → NodeId → NodeId → ℕ → rust.Option code_node.NodeId → List ℕ → List ℕ → Type 0
-Step depth set way n a after value s t =
-    Lowering (suc set) (λ nodes. sized nodes n + (sized nodes a + (sizes nodes (attrs_from nodes after (node_of way)) + place nodes (node_of value)))) nothing
-    (λ nodes. merge_nested_attr_value nodes (lower_at depth nodes) (merge_at depth nodes) set n (a ∷ attrs_from nodes after (node_of way)) (node_of value)) s tt t
+abbrev pub Step : ℕ → SetId → NodeId → NodeId → Rest → rust.Option code_node.NodeId → List ℕ → List ℕ → Type 0
+Step depth set n a rest value s t =
+    Lowering (suc set) (λ nodes. sized nodes n + (sized nodes a + (sizes nodes (attrs_left nodes rest) + place nodes (node_of value)))) nothing
+    (λ nodes. merge_nested_attr_value nodes (lower_at depth nodes) (merge_at depth nodes) set n (a ∷ attrs_left nodes rest) (node_of value)) s tt t
 
-abbrev pub Nest : ℕ → Pointer → rust.Option code_node.NodeId → NodeId → ℕ → rust.Option code_node.NodeId → List ℕ → ExprId → List ℕ → Type 0
-Nest depth p way n after value s r t =
-    Lowering 0 (λ nodes. sized nodes n + (sizes nodes (attrs_from nodes after (node_of way)) + place nodes (node_of value))) one_set
-    (λ nodes. inner (new_nested (pointer_of p) >>= λ set. merge_nested_attr_value nodes (lower_at depth nodes) (merge_at depth nodes) set n (attrs_from nodes after (node_of way)) (node_of value) >>= λ _. finish_expr set)) s r t
+abbrev pub Nest : ℕ → Pointer → NodeId → Rest → rust.Option code_node.NodeId → List ℕ → ExprId → List ℕ → Type 0
+Nest depth p n rest value s r t =
+    Lowering 0 (λ nodes. sized nodes n + (sizes nodes (attrs_left nodes rest) + place nodes (node_of value))) one_set
+    (λ nodes. inner (new_nested (pointer_of p) >>= λ set. merge_nested_attr_value nodes (lower_at depth nodes) (merge_at depth nodes) set n (attrs_left nodes rest) (node_of value) >>= λ _. finish_expr set)) s r t
 
 abbrev pub Dynamics : SetId → ExprId → ExprId → List ℕ → List ℕ → Type 0
 Dynamics set k v s t = Lowering (suc set) (λ _. 0) one_entry (λ _. add_entry (dynamic set k v)) s tt t
@@ -182,16 +183,16 @@ module _ (depth : ℕ) (set : SetId) (n : NodeId) (k : AttrKind) {s : List ℕ} 
       all_lower (rw (key_dynamic s k _ e key q) (fits 1 (λ w. omega (arith, key_heft w n (node_of key) (key_dynamic s k _ e key q), heft_place (nodes_of s) (node_of value))) refl (x.at _ _)))
 
   -- ---- step
-  module _ (p : Pointer) (h : pointer_of p ≡ pointer (nodes_of s) n) (way : rust.Option code_node.NodeId) (a after : ℕ) (value : rust.Option code_node.NodeId) where
+  module _ (p : Pointer) (h : pointer_of p ≡ pointer (nodes_of s) n) (a : ℕ) (rest : Rest) (value : rust.Option code_node.NodeId) where
     pub step_static : (key : code_text.TextId) {r : SetId} {u t : List ℕ} → k ≡ Static key → Lowering (suc set) (λ _. 0) nested_price (λ _. get_or_create_nested_static set (text_in s key.0) (pointer_of p)) s r u
-        → Nested depth r way a after value u t → Step depth set way n a after value s t
+        → Nested depth r a rest value u t → Step depth set n a rest value s t
     unfolding merge_nested_attr_value merge_step_as covers ◌⊕◌ price nothing nested_price
     step_static key q x y =
         all_lower
         (rw (key_static s k _ e key q, ← h)
         (fits 1 (λ w. omega (arith, own_and_below w n)) refl (then_open _ (x.at _ _) (λ c l. nested_open set (text_in s key.0) (pointer_of p) c.opened c.ready l) (y.at _ _))))
 
-    pub step_dynamic : (key : rust.Option code_node.NodeId) {f g : ExprId} {u v t : List ℕ} → k ≡ Dynamic key → Nest depth p way a after value s f u → Opt depth key u g v → Dynamics set g f v t → Step depth set way n a after value s t
+    pub step_dynamic : (key : rust.Option code_node.NodeId) {f g : ExprId} {u v t : List ℕ} → k ≡ Dynamic key → Nest depth p a rest value s f u → Opt depth key u g v → Dynamics set g f v t → Step depth set n a rest value s t
     unfolding merge_nested_attr_value merge_step_as covers ◌⊕◌ price nothing one_set one_expr one_entry
     step_dynamic key q x y d =
         all_lower
@@ -217,12 +218,12 @@ module _ (depth : ℕ) (set : SetId) (n : NodeId) (k : AttrKind) {s : List ℕ} 
       all_lower (rw (key_dynamic s k _ e key q) (fits 1 (λ w. omega (arith, key_heft w n (node_of key) (key_dynamic s k _ e key q))) refl (x.at _ _)))
 
 -- ---- nested: the last attribute, or one before the end
-module _ (depth : ℕ) (set : SetId) (way : rust.Option code_node.NodeId) (n after : ℕ) (value : rust.Option code_node.NodeId) {s t : List ℕ} where
-  pub nested_last : attrs_from (nodes_of s) after (node_of way) ≡ [] → AttrValue depth set n value s t → Nested depth set way n after value s t
+module _ (depth : ℕ) (set : SetId) (n : ℕ) (rest : Rest) (value : rust.Option code_node.NodeId) {s t : List ℕ} where
+  pub nested_last : attrs_left (nodes_of s) rest ≡ [] → AttrValue depth set n value s t → Nested depth set n rest value s t
   unfolding merge_nested_attr_value sizes covers price nothing
   nested_last e x = all_lower (rw e (fits 0 (λ _. omega arith) refl (x.at _ _)))
 
-  pub nested_before : {a j : ℕ} → FirstIn (nodes_of s) after (node_of way) a j → Step depth set way n a j value s t → Nested depth set way n after value s t
+  pub nested_before : {a : ℕ} {more : Rest} → FirstIn (nodes_of s) rest a more → Step depth set n a more value s t → Nested depth set n rest value s t
   unfolding sizes covers price nothing
   nested_before f x = all_lower (rw f.items (fits 0 (λ _. omega arith) refl (x.at _ _)))
 
@@ -232,7 +233,7 @@ AttrpathVal depth set n s t = Lowering (suc set) (λ nodes. sized nodes n) nothi
 
 module _ (depth : ℕ) (set : SetId) (n : NodeId) (at : Children) {s t : List ℕ} (h : HasChildren (nodes_of s) n at) where
   -- a path without an attribute
-  pub attrpath_none : attrs_from (nodes_of s) 0 (node_of at.first) ≡ [] → Pushed depth set rust.None at.second s t → AttrpathVal depth set n s t
+  pub attrpath_none : attrs_left (nodes_of s) (record { path = at.first; after = 0 }) ≡ [] → Pushed depth set rust.None at.second s t → AttrpathVal depth set n s t
   unfolding merge_attrpath_val merge_path node_of heft covers price nothing
   attrpath_none e x =
       let ns = nodes_of s in
@@ -241,7 +242,7 @@ module _ (depth : ℕ) (set : SetId) (n : NodeId) (at : Children) {s t : List �
       (rw (← h.first, ← h.second, none_there)
       (fits 1 (λ w. omega (arith, three_below w h, own_and_below w n, heft_place ns (node_of at.second))) refl (x.at ns (waiting_of s))))
 
-  pub attrpath_there : {a j : ℕ} → FirstIn (nodes_of s) 0 (node_of at.first) a j → Nested depth set at.first a j at.second s t → AttrpathVal depth set n s t
+  pub attrpath_there : {a : ℕ} {more : Rest} → FirstIn (nodes_of s) (record { path = at.first; after = 0 }) a more → Nested depth set a more at.second s t → AttrpathVal depth set n s t
   unfolding merge_attrpath_val merge_path sizes covers price nothing
   attrpath_there f x =
       let ns = nodes_of s in

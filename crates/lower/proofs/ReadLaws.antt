@@ -30,29 +30,10 @@ use Rattle.open_sets.specs.Entries.{maybe_set_of}
 use Rattle.open_sets.specs.declared.entry.SetId as code_set
 use Rattle.merge.specs.Lowers.{Lowerable}
 use Rattle.lower.specs.Reads.{ident_of, owner_of, ellipsis_of, pattern_of, HasParam, attrs_from, FirstIn, NextIn, FirstEntry, nested_for, into_of, GoesInto}
-use Rattle.lower.specs.declared.reads.Param.{Param}
+use Rattle.lower.specs.declared.reads.Rest.{Rest}
 use Rattle.std.specs.Prelude as rust
 
--- ---- a kid of a place that may be absent
-module _ (nodes : List Node) (place : rust.Option code_id.NodeId) where
-  pub kid_of_node : (n : code_id.NodeId) → place ≡ rust.Some n → {o : Option NodeId} → o ≡ kid nodes 0 n.0 → o ≡ kid_of nodes 0 (node_of place)
-  unfolding kid_of node_of
-  kid_of_node n q e = rw q e
-
-  pub kid_of_none : place ≡ rust.None → none ≡ kid_of nodes 0 (node_of place)
-  unfolding kid_of node_of
-  kid_of_none q = rw q
-
 -- ---- a parameter
-module _ (nodes : List Node) (n : NodeId) (f : ℕ) (e : f ≡ flag nodes n) where
-  pub pattern_open : f ≡ 1 → pattern_of pattern_kind.Ellipsis ≡ some (eqb (flag nodes n) 1)
-  unfolding pattern_of
-  pattern_open h = rw (← e, eq-eqb f 1 h)
-
-  pub pattern_closed : (f ≡ 1 → ⊥) → pattern_of pattern_kind.Closed ≡ some (eqb (flag nodes n) 1)
-  unfolding pattern_of
-  pattern_closed h = rw (← e, ne_eqb f 1 h)
-
 module _ (nodes : List Node) (n : code_id.NodeId) (k : ℕ) (e : k ≡ kind nodes n.0) (first : rust.Option code_id.NodeId) (q : node_of first ≡ kid nodes 0 n.0) where
   pub param_ident : k ≡ 28 → HasParam nodes (some n.0) (record { ident = first; owner = rust.None; pattern = pattern_kind.Absent })
   unfolding ident_of owner_of ellipsis_of pattern_of node_of
@@ -73,15 +54,6 @@ module _ (nodes : List Node) (n : code_id.NodeId) (k : ℕ) (e : k ≡ kind node
         pattern = rw (← e, ne_eqb k 28 h) b;
       }
 
-module _ (nodes : List Node) (place : rust.Option code_id.NodeId) where
-  pub param_node : (n : code_id.NodeId) → place ≡ rust.Some n → {r : Param} → HasParam nodes (some n.0) r → HasParam nodes (node_of place) r
-  unfolding node_of
-  param_node n q p = rw q p
-
-  pub param_none : place ≡ rust.None → HasParam nodes (node_of place) (record { ident = rust.None; owner = rust.None; pattern = pattern_kind.Absent })
-  unfolding ident_of owner_of ellipsis_of pattern_of node_of
-  param_none q = rw q (record { ident = refl; owner = refl; pattern = refl })
-
 -- ---- items
 -- THEOREM. No node has more kids than the store has places for all of them.
 pub kids_few : (s : List ℕ) (n : NodeId) → length (node_at (nodes_of s) n).kids ≤ kid_limit
@@ -92,26 +64,18 @@ kids_few s n = go (ltb n (length (nodes_of s))) refl
     go true q = omega (arith, kids_many s n (first_kid s n) (first_kid s (n + 1)) (ltb-true n _ q) refl refl, cap_lim (word s (nodes_at + node_row * (n + 1))) kid_limit)
     go false q = omega (arith, kids_none s n (ltb-false n _ q))
 
--- the next item of a node, as that of a place
-pub next_of_node : (s : List ℕ) (i : ℕ) (n : NodeId) (r : rust.Option (code_id.NodeId × ℕ)) → Next (nodes_of s) i n r → NextIn (nodes_of s) i (some n) r
-unfolding Next NextIn attrs_from
-next_of_node s i n rust.None e = e
-next_of_node s i n (rust.Some (k, j)) e = record { items = e.items; onward = e.onward; inside = omega (arith, e.inside, kids_few s n) }
-
-module _ (s : List ℕ) (i : ℕ) (place : rust.Option code_id.NodeId) where
-  pub next_node : (n : code_id.NodeId) → place ≡ rust.Some n → (r : rust.Option (code_id.NodeId × ℕ)) → Next (nodes_of s) i n.0 r → NextIn (nodes_of s) i (node_of place) r
-  unfolding node_of
-  next_node n q r e = rw q (next_of_node s i n.0 r e)
-
-  pub next_none : place ≡ rust.None → NextIn (nodes_of s) i (node_of place) rust.None
-  unfolding node_of NextIn attrs_from
-  next_none q = rw q
+-- what is left of a path, by the next item of its node
+module _ (s : List ℕ) (r : Rest) where
+  pub rest_next : (n : code_id.NodeId) → r.path ≡ rust.Some n → (o : rust.Option (code_id.NodeId × ℕ)) → Next (nodes_of s) r.after n.0 o → (k : code_id.NodeId) (j : ℕ) → o ≡ rust.Some (k, j)
+      → NextIn (nodes_of s) r (rust.Some (k, record { path = r.path; after = j }))
+  unfolding Next NextIn attrs_from node_of
+  rest_next n q o e k j h = let f = rw h at e in record { items = rw q f.items; onward = f.onward; inside = omega (arith, f.inside, kids_few s n.0) }
 
 -- what a caller knows of the answer
-module _ (nodes : List Node) (i : ℕ) (place : Option NodeId) (r : rust.Option (code_id.NodeId × ℕ)) (e : NextIn nodes i place r) where
-  pub in_first : (k : code_id.NodeId) (j : ℕ) → r ≡ rust.Some (k, j) → FirstIn nodes i place k.0 j
+module _ (nodes : List Node) (r : Rest) (o : rust.Option (code_id.NodeId × Rest)) (e : NextIn nodes r o) where
+  pub in_first : (k : code_id.NodeId) (more : Rest) → o ≡ rust.Some (k, more) → FirstIn nodes r k.0 more
   unfolding NextIn
-  in_first k j q = rw q at e
+  in_first k more q = rw q at e
 
 -- ---- where the entries begin
 module _ (nodes : List Node) (n : NodeId) (k : ℕ) (e : k ≡ kind nodes n) where

@@ -15,6 +15,7 @@ use Rattle.layout.specs.States.{state_of}
 use Rattle.keys.specs.Items.{items_from}
 use Rattle.merge.specs.Lowers.{Lowerable}
 use Rattle.lower.specs.declared.reads.Param.{Param}
+use Rattle.lower.specs.declared.reads.Rest.{Rest}
 use Rattle.module.specs.declared.ids.NodeId as rust_node_id
 use Rattle.open_sets.specs.declared.entry.SetId as rust_set_id
 use Rattle.std.specs.Prelude as rust
@@ -49,16 +50,19 @@ unfoldable pub attrs_from : List Node → ℕ → Option NodeId → List NodeId
 attrs_from nodes i none = []
 attrs_from nodes i (some n) = items_from nodes i n
 
--- From place i on, k is the first, and the others follow from place j on; no node has more kids than the store has room
--- for.
-pub record FirstIn (nodes : List Node) (i : ℕ) (place : Option NodeId) (k : NodeId) (j : ℕ) : Type 0 where
-  pub items : attrs_from nodes i place ≡ k ∷ attrs_from nodes j place
-  pub onward : i < j
-  pub inside : j ≤ kid_limit
+-- what is left of an attribute path
+abbrev pub attrs_left : List Node → Rest → List NodeId
+attrs_left nodes r = attrs_from nodes r.after (node_of r.path)
 
-unfoldable pub NextIn : List Node → ℕ → Option NodeId → rust.Option (rust_node_id.NodeId × ℕ) → Type 0
-NextIn nodes i place rust.None = attrs_from nodes i place ≡ []
-NextIn nodes i place (rust.Some (k, j)) = FirstIn nodes i place k.0 j
+-- Of what is left k is the first, and `more` has the others; no node has more kids than the store has room for.
+pub record FirstIn (nodes : List Node) (r : Rest) (k : NodeId) (more : Rest) : Type 0 where
+  pub items : attrs_left nodes r ≡ k ∷ attrs_left nodes more
+  pub onward : r.after < more.after
+  pub inside : more.after ≤ kid_limit
+
+unfoldable pub NextIn : List Node → Rest → rust.Option (rust_node_id.NodeId × Rest) → Type 0
+NextIn nodes r rust.None = attrs_left nodes r ≡ []
+NextIn nodes r (rust.Some (k, more)) = FirstIn nodes r k.0 more
 
 -- ---- where the entries begin
 pub record FirstEntry (nodes : List Node) (n : NodeId) (r : ℕ) : Type 0 where

@@ -3,6 +3,11 @@
 //
 // `depth` is how many levels of nodes are left; nodes of an accepted sheet are never deeper. Lists wait
 // as items until the expression that has them is allocated.
+//
+// `store`, `depth` and the set `s` are no struct: the store is the host's memory, which every call here writes, `depth`
+// is what the proof that the calls end counts down, and only the functions of sets have an `s`.
+#![tactic(auto, unfolding(rows::specs::Decoded::ValidExpr, module::specs::Literals::Valid))]
+
 ghost use Rattle.std.specs.Prelude.{◌≡◌, ◌∷◌, map, suc, ◌+◌, ◌≤◌};
 ghost use Rattle.spec.specs.Keys.{items, kind};
 ghost use Rattle.spec.specs.Steps.{each};
@@ -23,12 +28,12 @@ ghost use Rattle.merge.specs.Finishes.{binding_items};
 ghost use Rattle.lower.specs.Sizes as room;
 ghost use Rattle.lower.specs.Sizes.{sized, below, sizes, heft};
 ghost use Rattle.lower.specs.Parts.{lower_at, merge_at, LowersNode, form_of, part_item, field_item, nested_expr, one};
-ghost use Rattle.lower.specs.Reads.{attrs_from};
+ghost use Rattle.lower.specs.Reads.{attrs_from, attrs_left};
 
 use crate::leaves::{
     alloc_lone, attr_name, ident, literal, lower_name, missing_node, pair_form, uri,
 };
-use crate::reads::{Param, first_entry, into_set, next_in, param_of};
+use crate::reads::{Param, Rest, first_entry, into_set, param_of};
 use intake::{kid, kid_count, node_flag, node_pointer, node_text, syntax_kind};
 use keys::{AttrKind, attr_kind, get_str_literal, has_interpolation, name_kind_of_set};
 use merge::{
@@ -340,6 +345,8 @@ fn list(store: &mut [u8], depth: u32, n: NodeId) -> ExprId
 }
 
 // BinOp: "A flag-0 BinOp lowers its left side first."
+// The operator stays the number that the flag is: the definitions keep it so, and 0 apart, which is none, nothing here
+// looks at which it is.
 #[cycle(exprs)]
 fn binop(store: &mut [u8], depth: u32, n: NodeId) -> ExprId
     requires { Long store.old }
@@ -371,7 +378,7 @@ fn set(store: &mut [u8], depth: u32, n: NodeId) -> ExprId
     alloc_expr(store, Expr::AttrSet(is_rec), base, p)
 }
 
-// UnaryOp.
+// UnaryOp; its operator is a number as that of a BinOp.
 #[cycle(exprs)]
 fn unop(store: &mut [u8], depth: u32, n: NodeId) -> ExprId
     requires { Long store.old }
@@ -491,29 +498,25 @@ fn put(store: &mut [u8], depth: u32, s: SetId, n: NodeId)
 {
     let first = kid(store, n, 0);
     let second = kid(store, n, 1);
-    match next_in(store, first, 0) {
+    let attributes = Rest {
+        path: first,
+        after: 0,
+    };
+    match attributes.next(store) {
         None => push(store, depth, s, None, second),
-        Some((a, after)) => nested(store, depth, s, first, a, after, second),
+        Some((a, rest)) => nested(store, depth, s, a, rest, second),
     }
 }
 
-// merge_nested_attr_value: the attribute n, then those of the path from `after` on, then the value.
+// merge_nested_attr_value: the attribute n, then the rest of its path, then the value.
 #[cycle(exprs)]
-fn nested(
-    store: &mut [u8],
-    depth: u32,
-    s: SetId,
-    way: Option<NodeId>,
-    n: NodeId,
-    after: u32,
-    value: Option<NodeId>,
-)
+fn nested(store: &mut [u8], depth: u32, s: SetId, n: NodeId, rest: Rest, value: Option<NodeId>)
     requires { Long store.old }
-    ensures { Lowering (suc s.0) (λ nodes. sized nodes n.0 + (sizes nodes (attrs_from nodes after (node_of way)) + room.place nodes (node_of value))) nothing (λ nodes. merge_nested_attr_value nodes (lower_at depth nodes) (merge_at depth nodes) s.0 n.0 (attrs_from nodes after (node_of way)) (node_of value)) store.old tt store.new }
+    ensures { Lowering (suc s.0) (λ nodes. sized nodes n.0 + (sizes nodes (attrs_left nodes rest) + room.place nodes (node_of value))) nothing (λ nodes. merge_nested_attr_value nodes (lower_at depth nodes) (merge_at depth nodes) s.0 n.0 (attrs_left nodes rest) (node_of value)) store.old tt store.new }
 {
-    match next_in(store, way, after) {
+    match rest.next(store) {
         None => last(store, depth, s, n, value),
-        Some((a, next)) => step(store, depth, s, way, n, a, next, value),
+        Some((a, more)) => step(store, depth, s, n, a, more, value),
     }
 }
 
@@ -523,23 +526,22 @@ fn step(
     store: &mut [u8],
     depth: u32,
     s: SetId,
-    way: Option<NodeId>,
     n: NodeId,
     a: NodeId,
-    after: u32,
+    rest: Rest,
     value: Option<NodeId>,
 )
     requires { Long store.old }
-    ensures { Lowering (suc s.0) (λ nodes. sized nodes n.0 + (sized nodes a.0 + (sizes nodes (attrs_from nodes after (node_of way)) + room.place nodes (node_of value)))) nothing (λ nodes. merge_nested_attr_value nodes (lower_at depth nodes) (merge_at depth nodes) s.0 n.0 (a.0 ∷ attrs_from nodes after (node_of way)) (node_of value)) store.old tt store.new }
+    ensures { Lowering (suc s.0) (λ nodes. sized nodes n.0 + (sized nodes a.0 + (sizes nodes (attrs_left nodes rest) + room.place nodes (node_of value)))) nothing (λ nodes. merge_nested_attr_value nodes (lower_at depth nodes) (merge_at depth nodes) s.0 n.0 (a.0 ∷ attrs_left nodes rest) (node_of value)) store.old tt store.new }
 {
     let p = node_pointer(store, n);
     match attr_kind(store, n) {
         AttrKind::Static(key) => {
             let t = get_or_create_nested_static(store, s, key, p);
-            nested(store, depth, t, way, a, after, value)
+            nested(store, depth, t, a, rest, value)
         }
         AttrKind::Dynamic(key) => {
-            let e = nest(store, depth, p, way, a, after, value);
+            let e = nest(store, depth, p, a, rest, value);
             let made = opt(store, depth, key);
             add_dynamic(store, s, made, e)
         }
@@ -552,18 +554,17 @@ fn nest(
     store: &mut [u8],
     depth: u32,
     p: Pointer,
-    way: Option<NodeId>,
     n: NodeId,
-    after: u32,
+    rest: Rest,
     value: Option<NodeId>,
 ) -> ExprId
     requires { Long store.old }
-    ensures { Lowering 0 (λ nodes. sized nodes n.0 + (sizes nodes (attrs_from nodes after (node_of way)) + room.place nodes (node_of value))) one_set (λ nodes. nested_expr nodes (lower_at depth nodes) (merge_at depth nodes) (pointer_of p) n.0 (attrs_from nodes after (node_of way)) (node_of value)) store.old result.0 store.new }
+    ensures { Lowering 0 (λ nodes. sized nodes n.0 + (sizes nodes (attrs_left nodes rest) + room.place nodes (node_of value))) one_set (λ nodes. nested_expr nodes (lower_at depth nodes) (merge_at depth nodes) (pointer_of p) n.0 (attrs_left nodes rest) (node_of value)) store.old result.0 store.new }
 {
     let sets = set_count(store);
     let open = entry_count(store);
     let t = open_set(store, NameKind::PlainAttrset, p);
-    nested(store, depth, t, way, n, after, value);
+    nested(store, depth, t, n, rest, value);
     let e = finish_nested(store, t);
     cut(store, sets, open);
     e

@@ -1,4 +1,6 @@
 // What is allocated without lowering anything below it (docs/RULES.md, "From nodes to expressions").
+#![tactic(auto, unfolding(rows::specs::Decoded::ValidExpr, module::specs::Literals::Valid))]
+
 ghost use Rattle.std.specs.Prelude.{◌≡◌, [], Some, eqb};
 ghost use Rattle.spec.specs.Keys as keys;
 ghost use Rattle.spec.specs.Module as spec;

@@ -6,7 +6,7 @@ ghost use Rattle.layout.specs.Texts.{text_in};
 ghost use Rattle.std.proofs.Math.Option.{some};
 ghost use Rattle.spec.specs.Keys.{flag, kid_of};
 ghost use Rattle.module.specs.Ids.{node_of};
-ghost use Rattle.lower.specs.Reads.{HasParam, pattern_of, NextIn, FirstEntry, GoesInto};
+ghost use Rattle.lower.specs.Reads.{HasParam, pattern_of, FirstEntry, GoesInto};
 
 use intake::{kid, node_flag, syntax_kind};
 use keys::next_item;
@@ -24,6 +24,7 @@ pub struct Param {
 }
 
 // A kid of a place that may be absent itself.
+#[tactic(auto, unfolding(module::specs::Ids::node_of, spec::specs::Keys::kid_of))]
 fn kid_of(store: &[u8], place: Option<NodeId>) -> Option<NodeId>
     requires { Long store.now }
     ensures { node_of result ≡ kid_of (nodes_of store.now) 0 (node_of place) }
@@ -31,6 +32,8 @@ fn kid_of(store: &[u8], place: Option<NodeId>) -> Option<NodeId>
     kid(store, place?, 0)
 }
 
+// A flag stays a number, as in the definitions: what it says goes by the kind of its node.
+#[tactic(auto, unfolding(crate::specs::Reads::pattern_of))]
 fn pattern_kind(store: &[u8], n: NodeId) -> Pattern
     requires { Long store.now }
     ensures { pattern_of result ≡ some (eqb (flag (nodes_of store.now) n.0) 1) }
@@ -61,6 +64,7 @@ fn param_node(store: &[u8], n: NodeId) -> Param
     }
 }
 
+#[tactic(auto, unfolding(module::specs::Ids::node_of, crate::specs::Reads::ident_of, crate::specs::Reads::owner_of, crate::specs::Reads::ellipsis_of, crate::specs::Reads::pattern_of))]
 pub fn param_of(store: &[u8], place: Option<NodeId>) -> Param
     requires { Long store.now }
     ensures { HasParam (nodes_of store.now) (node_of place) result }
@@ -75,12 +79,28 @@ pub fn param_of(store: &[u8], place: Option<NodeId>) -> Param
     }
 }
 
-// The next item of a place that may be absent.
-pub fn next_in(store: &[u8], place: Option<NodeId>, i: u32) -> Option<(NodeId, u32)>
-    requires { Long store.now }
-    ensures { NextIn (nodes_of store.now) i (node_of place) result }
-{
-    next_item(store, place?, i)
+// What is left of an attribute path: its attributes from place `after` on. A path that is absent has none.
+#[derive(Clone, Copy)]
+pub struct Rest {
+    pub path: Option<NodeId>,
+    pub after: u32,
+}
+
+impl Rest {
+    ghost use Rattle.layout.specs.Layout.{Long};
+    ghost use Rattle.layout.specs.Nodes.{nodes_of};
+    ghost use Rattle.lower.specs.Reads.{NextIn};
+
+    // The first attribute, and what is then left.
+    #[tactic(auto, unfolding(module::specs::Ids::node_of, crate::specs::Reads::NextIn, keys::specs::Items::Next, crate::specs::Reads::attrs_from))]
+    pub fn next(self, store: &[u8]) -> Option<(NodeId, Rest)>
+        requires { Long store.now }
+        ensures { NextIn (nodes_of store.now) self result }
+    {
+        let n = self.path?;
+        let (a, after) = next_item(store, n, self.after)?;
+        Some((a, Rest { after, ..self }))
+    }
 }
 
 // Where the entries begin: a LetIn has its body first.

@@ -10,7 +10,7 @@
 // lines of no form; a line with a number is judged as it is read.
 #![tactic(auto)]
 
-ghost use Rattle.std.specs.Prelude.{◌≤◌, length, IfOk};
+ghost use Rattle.std.specs.Prelude.{◌≡◌, ◌≤◌, length, IfOk, IfSome};
 
 use ask::{ask_name, ask_reference};
 use change::{change_name, change_reference};
@@ -24,221 +24,202 @@ use std::io::{self, Read, Write};
 // The list may have so many bytes.
 const LIST_BYTES: usize = 524288;
 
-// The number of the line at a place of the list, and the place after it; the line has to have the key and a number from
-// 0 to `most`.
-fn number_at(list: &[u8], at: usize, key: &[u8], most: u32) -> Option<(u32, usize)> {
-    if list.len() < at {
-        return None;
+// What a call asks or changes, by the number that the list has for it.
+#[derive(Clone, Copy)]
+enum Call {
+    AskReference,
+    AskName,
+    ChangeReference,
+    ChangeName,
+}
+
+impl Call {
+    fn of(number: u32) -> Option<Call> {
+        match number {
+            0 => Some(Call::AskReference),
+            1 => Some(Call::AskName),
+            2 => Some(Call::ChangeReference),
+            3 => Some(Call::ChangeName),
+            _ => None,
+        }
     }
-    let line = Position::first().number(&list[at..], key, Fault::WrongCount, 0, most);
+}
+
+// A call as the list has it: the bytes lent for its list and for its reply, and the text that a change sets.
+#[derive(Clone, Copy)]
+struct Given<'a> {
+    call: Call,
+    number: u32,
+    text: &'a [u8],
+    lent: u32,
+    told: u32,
+}
+
+// The number of the first line, and what follows the line; it has to have the key and a number from 0 to `most`.
+fn first_number<'a>(list: &'a [u8], key: &[u8], most: u32) -> Option<(u32, &'a [u8])>
+    ensures { IfSome result (λ p. length p.1.now ≤ length list.now) }
+{
+    let line = Position::first().number(list, key, Fault::WrongCount, 0, most);
     let (value, next) = line.ok()?;
-    if list.len() - at < next.at {
-        return None;
+    let rest = list.get(next.at..)?;
+    Some((value, rest))
+}
+
+// A change, from its line `moved=` on, and what follows it; its text stands behind its lines, with a line end.
+fn first_change<'a>(
+    list: &'a [u8],
+    call: Call,
+    number: u32,
+    bytes: u32,
+) -> Option<(Given<'a>, &'a [u8])>
+    ensures { IfSome result (λ p. length p.1.now ≤ length list.now) }
+{
+    let (lent, list) = first_number(list, b"moved=", 16384)?;
+    let (told, list) = first_number(list, b"reply=", 32)?;
+    let (text, list) = list.split_at_checked(bytes as usize)?;
+    let rest = list.get(1..)?;
+    let given = Given {
+        call,
+        number,
+        text,
+        lent,
+        told,
+    };
+    Some((given, rest))
+}
+
+// An asking, from its line `reply=` on, and what follows it.
+fn first_asking<'a>(
+    list: &'a [u8],
+    call: Call,
+    number: u32,
+    lent: u32,
+) -> Option<(Given<'a>, &'a [u8])>
+    ensures { IfSome result (λ p. length p.1.now ≤ length list.now) }
+{
+    let (told, rest) = first_number(list, b"reply=", 32)?;
+    let given = Given {
+        call,
+        number,
+        text: b"",
+        lent,
+        told,
+    };
+    Some((given, rest))
+}
+
+// The first call of the list, and what follows it.
+fn first_call<'a>(list: &'a [u8]) -> Option<(Given<'a>, &'a [u8])>
+    ensures { IfSome result (λ p. length p.1.now ≤ length list.now) }
+{
+    let (kind, list) = first_number(list, b"call=", 3)?;
+    let call = Call::of(kind)?;
+    let (number, list) = first_number(list, b"number=", 4294967295)?;
+    let (bytes, list) = first_number(list, b"lent=", 16384)?;
+    match call {
+        Call::AskReference | Call::AskName => first_asking(list, call, number, bytes),
+        Call::ChangeReference | Call::ChangeName => first_change(list, call, number, bytes),
     }
-    Some((value, at + next.at))
 }
 
 // Where the list does not go on as it should, the rest of it is left out.
-fn broken<W: Write>(out: &mut W, list: &[u8]) -> io::Result<usize> {
+fn broken<'a, W: Write>(out: &mut W) -> io::Result<&'a [u8]>
+    ensures { IfOk result (λ rest. length rest.now ≡ 0) }
+{
     out.write_all(b"the list has another form here\n")?;
-    Ok(list.len())
+    Ok(b"")
 }
 
 // What is lent is never more than there is.
 fn within(bytes: u32, most: usize) -> usize
     ensures { result ≤ most }
 {
-    let bytes = bytes as usize;
-    if most < bytes {
-        return most;
-    }
-    bytes
+    most.min(bytes as usize)
 }
 
-// Whether a call was refused; it is then told why. A reply that was too short has the place 0, as it was lent.
-fn told_refused<W: Write>(out: &mut W, number: u32, reply: &[u8; 32]) -> io::Result<bool> {
-    if number == 0 {
-        return Ok(false);
-    }
-    print_refusal(out, number, reply_word(reply, 4))?;
-    Ok(true)
-}
-
-fn ask_about_reference<W: Write>(
-    out: &mut W,
-    store: &[u8],
-    number: u32,
-    lent: u32,
-    told: u32,
-) -> io::Result<()> {
-    let mut buffer = [0u8; 16384];
-    let mut reply = [0u8; 32];
-    let lent = within(lent, 16384);
-    let told = within(told, 32);
-    let refused = ask_reference(store, number, &mut buffer[0..lent], &mut reply[0..told]);
-    if told_refused(out, refused, &reply)? {
-        return Ok(());
-    }
-    print_answer(
-        out,
-        reply_word(&reply, 8),
-        reply_word(&reply, 12),
-        &buffer,
-        reply_word(&reply, 16),
-    )
-}
-
-// The references of a name; as many expressions as there can be would not fit, but no vector has so many.
-fn print_uses<W: Write>(out: &mut W, buffer: &[u8; 16384], count: u32) -> io::Result<()> {
-    print_list(out, b"list=", buffer, count)
-}
-
-fn ask_about_name<W: Write>(
-    out: &mut W,
-    store: &[u8],
-    number: u32,
-    lent: u32,
-    told: u32,
-) -> io::Result<()> {
-    let mut buffer = [0u8; 16384];
-    let mut reply = [0u8; 32];
-    let lent = within(lent, 16384);
-    let told = within(told, 32);
-    let refused = ask_name(store, number, &mut buffer[0..lent], &mut reply[0..told]);
-    if told_refused(out, refused, &reply)? {
-        return Ok(());
-    }
-    print_uses(out, &buffer, reply_word(&reply, 16))
-}
-
-// The References that a change moved.
-fn print_moved<W: Write>(out: &mut W, buffer: &[u8; 16384], count: u32) -> io::Result<()> {
-    print_list(out, b"moved=", buffer, count)
-}
-
-fn change<W: Write>(
-    out: &mut W,
+// Makes the call; gives 0, or the number of why it is refused.
+fn make(
+    given: Given<'_>,
     store: &mut [u8; STORE_BYTES],
-    kind: u32,
-    number: u32,
-    text: &[u8],
-    lent: u32,
-    told: u32,
+    buffer: &mut [u8],
+    reply: &mut [u8],
+) -> u32 {
+    match given.call {
+        Call::AskReference => ask_reference(store, given.number, buffer, reply),
+        Call::AskName => ask_name(store, given.number, buffer, reply),
+        Call::ChangeReference => change_reference(store, given.number, given.text, buffer, reply),
+        Call::ChangeName => change_name(store, given.number, given.text, buffer, reply),
+    }
+}
+
+// What a call told: an answer, the references of a name or the References that a change moved. As many as there can be
+// would not fit into the buffer, but no vector has so many.
+fn print_told<W: Write>(
+    out: &mut W,
+    call: Call,
+    buffer: &[u8; 16384],
+    reply: &[u8; 32],
 ) -> io::Result<()> {
-    let mut moved = [0u8; 16384];
-    let mut reply = [0u8; 32];
-    let lent = within(lent, 16384);
-    let told = within(told, 32);
-    let refused = if kind == 2 {
-        change_reference(
-            store,
-            number,
-            text,
-            &mut moved[0..lent],
-            &mut reply[0..told],
-        )
-    } else {
-        change_name(
-            store,
-            number,
-            text,
-            &mut moved[0..lent],
-            &mut reply[0..told],
-        )
-    };
-    if told_refused(out, refused, &reply)? {
-        return Ok(());
+    let count = reply_word(reply, 16);
+    match call {
+        Call::AskReference => {
+            let answer = reply_word(reply, 8);
+            print_answer(out, answer, reply_word(reply, 12), buffer, count)
+        }
+        Call::AskName => print_list(out, b"list=", buffer, count),
+        Call::ChangeReference | Call::ChangeName => print_list(out, b"moved=", buffer, count),
     }
-    print_moved(out, &moved, reply_word(&reply, 16))
 }
 
-// A change, from its line `moved=` on; its text stands behind its lines. Gives the place after it.
-fn run_change<W: Write>(
-    out: &mut W,
-    list: &[u8],
-    at: usize,
-    kind: u32,
-    number: u32,
-    bytes: u32,
-    store: &mut [u8; STORE_BYTES],
-) -> io::Result<usize> {
-    let Some((lent, at)) = number_at(list, at, b"moved=", 16384) else {
-        return broken(out, list);
-    };
-    let Some((told, at)) = number_at(list, at, b"reply=", 32) else {
-        return broken(out, list);
-    };
-    let bytes = bytes as usize;
-    if list.len() < at {
-        return broken(out, list);
-    }
-    if list.len() - at <= bytes {
-        return broken(out, list);
-    }
-    let end = at + bytes;
-    change(out, store, kind, number, &list[at..end], lent, told)?;
-    Ok(end + 1)
-}
-
-// An asking, from its line `reply=` on; gives the place after it.
-fn run_asking<W: Write>(
-    out: &mut W,
-    list: &[u8],
-    at: usize,
-    kind: u32,
-    number: u32,
-    lent: u32,
-    store: &[u8],
-) -> io::Result<usize> {
-    let Some((told, at)) = number_at(list, at, b"reply=", 32) else {
-        return broken(out, list);
-    };
-    match kind {
-        0 => ask_about_reference(out, store, number, lent, told)?,
-        _ => ask_about_name(out, store, number, lent, told)?,
-    }
-    Ok(at)
-}
-
-// One call; gives the place after it.
+// One call, made and told; a refused one tells why. A reply that was too short has the place 0, as it was lent.
 fn run_call<W: Write>(
     out: &mut W,
-    list: &[u8],
-    at: usize,
+    given: Given<'_>,
     store: &mut [u8; STORE_BYTES],
-) -> io::Result<usize> {
-    let Some((kind, at)) = number_at(list, at, b"call=", 3) else {
-        return broken(out, list);
-    };
-    let Some((number, at)) = number_at(list, at, b"number=", 4294967295) else {
-        return broken(out, list);
-    };
-    let Some((lent, at)) = number_at(list, at, b"lent=", 16384) else {
-        return broken(out, list);
-    };
-    match kind {
-        0 => run_asking(out, list, at, kind, number, lent, store),
-        1 => run_asking(out, list, at, kind, number, lent, store),
-        _ => run_change(out, list, at, kind, number, lent, store),
+) -> io::Result<()> {
+    let mut buffer = [0u8; 16384];
+    let mut reply = [0u8; 32];
+    let lent = within(given.lent, 16384);
+    let told = within(given.told, 32);
+    let refused = make(given, store, &mut buffer[..lent], &mut reply[..told]);
+    if refused != 0 {
+        return print_refusal(out, refused, reply_word(&reply, 4));
     }
+    print_told(out, given.call, &buffer, &reply)
 }
 
-// All calls of a vector, and what the store tells after them; gives the place after the last.
-fn run_calls<W: Write>(
+// Runs the first call of the list; gives what follows it.
+fn run_first<'a, W: Write>(
     out: &mut W,
-    list: &[u8],
-    first: usize,
+    list: &'a [u8],
+    store: &mut [u8; STORE_BYTES],
+) -> io::Result<&'a [u8]>
+    ensures { IfOk result (λ rest. length rest.now ≤ length list.now) }
+{
+    let Some((given, rest)) = first_call(list) else {
+        return broken(out);
+    };
+    run_call(out, given, store)?;
+    Ok(rest)
+}
+
+// All calls of a vector, and what the store tells after them; gives what follows the last.
+fn run_calls<'a, W: Write>(
+    out: &mut W,
+    list: &'a [u8],
     count: u32,
     store: &mut [u8; STORE_BYTES],
-) -> io::Result<usize> {
-    let mut at = first;
-    for i in 0..count {
-        at = run_call(out, list, at, store)?;
+) -> io::Result<&'a [u8]>
+    ensures { IfOk result (λ rest. length rest.now ≤ length list.now) }
+{
+    let mut rest = list;
+    for _ in 0..count {
+        rest = run_first(out, rest, store)?;
     }
     if 0 < count {
         print_module(out, store)?;
     }
-    Ok(at)
+    Ok(rest)
 }
 
 fn load_and_show<W: Write>(
@@ -251,46 +232,43 @@ fn load_and_show<W: Write>(
     print_load(out, refused, &reply, store)
 }
 
-// The sheet and the calls of a vector, from the line `sheet=` on; gives how many bytes they take.
-fn run_sheet<W: Write>(
+// The first sheet of the list, from its line `sheet=` on, and what follows it.
+fn first_sheet<'a>(list: &'a [u8]) -> Option<(&'a [u8], &'a [u8])>
+    ensures { IfSome result (λ p. length p.1.now ≤ length list.now) }
+{
+    let (bytes, list) = first_number(list, b"sheet=", 65536)?;
+    list.split_at_checked(bytes as usize)
+}
+
+// The sheet and the calls of a vector, from the line `sheet=` on; gives what follows them.
+fn run_sheet<'a, W: Write>(
     out: &mut W,
-    list: &[u8],
+    list: &'a [u8],
     store: &mut [u8; STORE_BYTES],
-) -> io::Result<usize> {
-    let Some((bytes, start)) = number_at(list, 0, b"sheet=", 65536) else {
-        return broken(out, list);
+) -> io::Result<&'a [u8]>
+    ensures { IfOk result (λ rest. length rest.now ≤ length list.now) }
+{
+    let Some((sheet, list)) = first_sheet(list) else {
+        return broken(out);
     };
-    let bytes = bytes as usize;
-    if list.len() < start {
-        return broken(out, list);
-    }
-    if list.len() - start < bytes {
-        return broken(out, list);
-    }
-    let end = start + bytes;
-    load_and_show(out, &list[start..end], store)?;
-    let Some((count, first)) = number_at(list, end, b"calls=", 4096) else {
-        return broken(out, list);
+    load_and_show(out, sheet, store)?;
+    let Some((count, calls)) = first_number(list, b"calls=", 4096) else {
+        return broken(out);
     };
-    run_calls(out, list, first, count, store)
+    run_calls(out, calls, count, store)
 }
 
 // Vectors one after the other, until the list ends or one has another form.
 fn run_list<W: Write>(out: &mut W, list: &[u8], store: &mut [u8; STORE_BYTES]) -> io::Result<()> {
-    let mut at = after_first_line(list);
+    let mut rest = &list[after_first_line(list)..];
     // No `for`: each vector says by its own lines where the next one begins.
-    while at < list.len() {
-        let title = after_first_line(&list[at..]);
-        if title == 0 {
+    while !rest.is_empty() {
+        let (title, vector) = rest.split_at(after_first_line(rest));
+        if title.is_empty() {
             return Ok(());
         }
-        let end = at + title;
-        out.write_all(&list[at..end])?;
-        let taken = run_sheet(out, &list[end..], store)?;
-        if list.len() - end < taken {
-            return Ok(());
-        }
-        at = end + taken;
+        out.write_all(title)?;
+        rest = run_sheet(out, vector, store)?;
     }
     Ok(())
 }

@@ -1,9 +1,6 @@
--- The loops of `vectors::run_list`.
-use Rattle.std.proofs.Common.{length, ◌-◌, ◌≤◌}
+-- The loop of `vectors::run_list`.
+use Rattle.std.proofs.Common.{length}
 use Rattle.vectors.proofs.run_list.Given as goal
 
-abbrev pub invariant-loop-at : goal.invariant-loop-at
-invariant-loop-at g l = l.at ≤ length l.list
-
-abbrev pub decreases-loop-at : goal.decreases-loop-at
-decreases-loop-at g l = length l.list - l.at
+abbrev pub decreases-loop-rest : goal.decreases-loop-rest
+decreases-loop-rest g l = length l.rest

@@ -1,6 +1,6 @@
 -- `keys::ast_utils::flatten_paren` meets its contract.
 use Rattle.intake.proofs.KindLaws.{unless_other, unless_kind}
-use Rattle.keys.proofs.ParenLaws.{flattening_start, flattening_more, flattened_none, flattened_out, flattened_other}
+use Rattle.keys.proofs.ParenLaws.{flattening_more, flattened_none, flattened_out, flattened_other}
 use Rattle.module.specs.Ids.{node_of}
 use Rattle.module.specs.declared.syntax_kind.SyntaxKind.TheVariants as kind
 use Rattle.module.specs.SyntaxKinds.{number_of_syntax}
@@ -8,9 +8,6 @@ use Prim.Native.Nat.{◌+◌, ◌-◌}
 use mathlib.Core.Path.{◌≡◌, refl}
 use native.Mathlib.Omega.{arith}
 use Rattle.keys.proofs.ast_utils.flatten_paren.Goals as goal
-
-pub loop-init : goal.loop-init
-loop-init c = flattening_start _ _
 
 pub returns-in_err-n : goal.returns-in_err-n
 unfolding node_of

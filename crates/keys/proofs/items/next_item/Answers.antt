@@ -1,9 +1,6 @@
 -- `keys::items::next_item` meets its contract.
-use Rattle.keys.proofs.ItemLaws.{passed_none, passed_more, passed_item, passed_end}
+use Rattle.keys.proofs.ItemLaws.{passed_more, passed_item, passed_end}
 use Rattle.keys.proofs.items.next_item.Goals as goal
-
-pub loop-at-init : goal.loop-at-init
-loop-at-init c = passed_none _ _ _
 
 pub returns-in-Some : goal.returns-in-Some
 returns-in-Some c = passed_item c.loop-at.invariant _ c.kid_count-at-end.ensures c.loop-at-test.true _ c.kid.ensures _ c.in-Some.is

@@ -7,14 +7,11 @@ use Rattle.lower.proofs.KindLaws.{too_deep, none_arm, pair_arm, cond_arm, select
 use Rattle.lower.proofs.LambdaLaws.{field_lowers, lambda_lowers}
 use Rattle.lower.proofs.LeafLaws.{ident_lowers, name_lowers}
 use Rattle.lower.proofs.ListedLaws.{attr_dynamic, attr_string, attr_ident, select_lowers, has_lowers, part_text, part_expr, path_parts, path_literal, string_literal, string_parts}
-use Rattle.lower.proofs.LoopLaws.{attrpath_absent, attrpath_start, attrpath_end, attr_waits, entries_start, fields_absent, fields_start, fields_end, inherits_start, inherits_end, list_start, list_taken, item_waits, parts_start}
+use Rattle.lower.proofs.LoopLaws.{attrpath_absent, attrpath_start, attrpath_end, attr_waits, entries_start, fields_absent, fields_start, fields_end, inherits_end, list_start, list_taken, item_waits, parts_start}
 use Rattle.lower.proofs.Loops.{gathering_turn, gathering_skip, gathering_end, merging_turn, merging_skip, merging_end}
 use Rattle.lower.proofs.MergeLaws.{entry_inherit, entry_attrpath, inherit_static, inherit_dynamic, bindings_none, bindings_there, keyed_merged, keyed_other, value_static, value_dynamic, nested_last, nested_before, dynamic_pushed, attrpath_none, attrpath_there, source_there, source_none, step_static, step_dynamic}
 use Rattle.lower.proofs.ReadLaws.{in_first}
 use Rattle.lower.specs.Reads.{NextIn}
-use Rattle.module.specs.Literals.{Valid}
-use Rattle.rows.specs.Decoded.{ValidExpr}
-use borrow.Author.Rules.{rules}
 use mathlib.Core.Path.{◌∙◌, refl, ap}
 use native.Mathlib.Omega.{arith}
 use Rattle.intake.proofs.KindLaws.{of_kind, if_kind, if_other}
@@ -66,18 +63,10 @@ binds-returns t c = desugar_lowers _ _ _ _ c.set_count-sets.ensures.0 c.entry_co
 pub binop-returns-then-op-eq0 : goal.binop-returns-then-op-eq0
 binop-returns-then-op-eq0 t c = binop_missing _ _ _ (two_children _ _ c.kid-first.ensures c.kid-second.ensures c.node_pointer-p.ensures) _ _ c.node_flag-op.ensures c.opt-lhs.ensures c.if-op-eq0.true c.alloc_missing.ensures
 
-pub binop-alloc_lone-requires : goal.binop-alloc_lone-requires
-unfolding ValidExpr
-binop-alloc_lone-requires t c = (omega (arith, c.requires), tt)
-
 pub binop-returns : goal.binop-returns
 binop-returns t c = binop_lowers _ _ _ (two_children _ _ c.kid-first.ensures c.kid-second.ensures c.node_pointer-p.ensures) _ _ _ c.node_flag-op.ensures c.opt-lhs.ensures c.if-op-eq0.false c.opt-rhs.ensures c.alloc_lone.ensures
 
 -- ---- cond
-
-pub cond-alloc_lone-requires : goal.cond-alloc_lone-requires
-unfolding ValidExpr
-cond-alloc_lone-requires t c = (omega (arith, c.requires), tt)
 
 pub cond-returns : goal.cond-returns
 cond-returns t c = cond_lowers _ _ _ (three_children _ _ c.kid-first.ensures c.kid-second.ensures c.kid-third.ensures c.node_pointer-p.ensures) _ _ _ c.opt-cond.ensures c.opt-then_body.ensures c.opt-else_body.ensures c.alloc_lone.ensures
@@ -199,18 +188,10 @@ fields-returns t c = fields_end _ _ c.in-Some.is (gathering_end c.loop-i.invaria
 
 -- ---- get
 
-pub get-alloc_expr-requires : goal.get-alloc_expr-requires
-unfolding ValidExpr
-get-alloc_expr-requires t c = (omega (arith, c.requires), tt)
-
 pub get-returns : goal.get-returns
 get-returns t c = select_lowers _ _ _ _ c.waiting_count-base.ensures (three_children _ _ c.kid-first.ensures c.kid-second.ensures c.kid-third.ensures c.node_pointer-p.ensures) _ c.opt-set.ensures c.attrs.ensures _ c.there-default_expr.ensures c.alloc_expr.ensures
 
 -- ---- has
-
-pub has-alloc_expr-requires : goal.has-alloc_expr-requires
-unfolding ValidExpr
-has-alloc_expr-requires t c = (omega (arith, c.requires), tt)
 
 pub has-returns : goal.has-returns
 has-returns t c = has_lowers _ _ _ _ c.waiting_count-base.ensures (two_children _ _ c.kid-first.ensures c.kid-second.ensures c.node_pointer-p.ensures) _ c.opt-set.ensures c.attrs.ensures c.alloc_expr.ensures
@@ -224,9 +205,6 @@ pub heir-returns-in-Dynamic : goal.heir-returns-in-Dynamic
 heir-returns-in-Dynamic t c = inherit_dynamic _ _ _ _ c.attr_kind.ensures _ _ c.in-Dynamic.is c.push.ensures
 
 -- ---- inherit
-
-pub inherit-loop-i-init : goal.inherit-loop-i-init
-inherit-loop-i-init t c = inherits_start _ _ _ _ _
 
 pub inherit-loop-i-preserved : goal.inherit-loop-i-preserved
 inherit-loop-i-preserved t c =
@@ -256,10 +234,6 @@ keyed-returns-in-None t c = keyed_other _ _ _ _ _ _ _ _ c.into_set.ensures c.in-
 
 -- ---- lambda
 
-pub lambda-alloc_expr-requires : goal.lambda-alloc_expr-requires
-unfolding ValidExpr
-lambda-alloc_expr-requires t c = (omega (arith, c.requires), tt)
-
 pub lambda-returns : goal.lambda-returns
 lambda-returns t c = lambda_lowers _ _ _ _ _ _ _ c.waiting_count-base.ensures (two_children _ _ c.kid-first.ensures c.kid-second.ensures c.node_pointer-p.ensures) c.param_of-ident.ensures (name_lowers _ _ _ c.lower_name-name.ensures) c.fields.ensures c.opt-body.ensures c.alloc_expr.ensures
 
@@ -273,18 +247,10 @@ last-returns-in-Dynamic t c = value_dynamic _ _ _ _ c.attr_kind.ensures _ _ c.in
 
 -- ---- let_in
 
-pub let_in-alloc_expr-requires : goal.let_in-alloc_expr-requires
-unfolding ValidExpr
-let_in-alloc_expr-requires t c = (omega (arith, c.requires.0), tt)
-
 pub let_in-returns : goal.let_in-returns
 let_in-returns t c = let_lowers _ _ _ _ _ c.requires.1 c.waiting_count-base.ensures (one_child _ _ c.kid-first.ensures c.node_pointer-p.ensures) c.binds.ensures c.opt-body.ensures c.alloc_expr.ensures
 
 -- ---- list
-
-pub list-alloc_expr-requires : goal.list-alloc_expr-requires
-unfolding ValidExpr
-list-alloc_expr-requires t c = search rules
 
 pub list-loop-i-init : goal.list-loop-i-init
 list-loop-i-init t c = list_start _ _ _
@@ -302,20 +268,20 @@ list-returns t c = list_taken _ _ _ c.waiting_count-base.ensures c.node_pointer-
 -- ---- nest
 
 pub nest-returns : goal.nest-returns
-nest-returns t c = nest_lowers _ _ _ _ _ _ c.set_count-sets.ensures.0 c.entry_count-open.ensures.0 c.open_set-t.ensures.0 c.nested.ensures c.finish_nested-e.ensures c.cut.ensures
+nest-returns t c = nest_lowers _ _ _ _ _ c.set_count-sets.ensures.0 c.entry_count-open.ensures.0 c.open_set-t.ensures.0 c.nested.ensures c.finish_nested-e.ensures c.cut.ensures
 
 -- ---- nested
 
 pub nested-step-requires : goal.nested-step-requires
-nested-step-requires t c = let f = in_first _ _ _ _ c.next_in.ensures _ _ c.in-Some.is in (omega (arith, c.decreases, f.onward, f.inside), omega (arith, c.requires))
+nested-step-requires t c = let f = in_first _ _ _ c.next.ensures _ _ c.in-Some.is in (omega (arith, c.decreases, f.onward, f.inside), omega (arith, c.requires))
 
 pub nested-returns-in-None : goal.nested-returns-in-None
 unfolding NextIn
-nested-returns-in-None t c = nested_last _ _ _ _ _ _ (rw c.in-None.is at c.next_in.ensures) c.last.ensures
+nested-returns-in-None t c = nested_last _ _ _ _ _ (rw c.in-None.is at c.next.ensures) c.last.ensures
 
 pub nested-returns-in-Some : goal.nested-returns-in-Some
 unfolding NextIn
-nested-returns-in-Some t c = nested_before _ _ _ _ _ _ (rw c.in-Some.is at c.next_in.ensures) c.step.ensures
+nested-returns-in-Some t c = nested_before _ _ _ _ _ (rw c.in-Some.is at c.next.ensures) c.step.ensures
 
 -- ---- opt
 
@@ -326,9 +292,6 @@ pub opt-returns-in-None : goal.opt-returns-in-None
 opt-returns-in-None t c = opt_absent _ c.in-None.is c.alloc_missing.ensures
 
 -- ---- pair
-
-pub pair-alloc_lone-requires : goal.pair-alloc_lone-requires
-pair-alloc_lone-requires t c = (omega (arith, c.requires), c.pair_form.ensures.valid)
 
 pub pair-returns : goal.pair-returns
 pair-returns t c = pair_lowers _ _ _ (two_children _ _ c.kid-first.ensures c.kid-second.ensures c.node_pointer-p.ensures) _ _ c.opt-a.ensures c.opt-b.ensures c.pair_form.ensures c.alloc_lone.ensures
@@ -360,16 +323,8 @@ parts-returns t c = gathering_end c.loop-i.invariant c.kid_count-i-end.ensures c
 
 -- ---- path
 
-pub path-alloc_expr-requires : goal.path-alloc_expr-requires
-unfolding ValidExpr
-path-alloc_expr-requires t c = (omega (arith, c.requires), tt)
-
 pub path-returns-then-has_interpolation : goal.path-returns-then-has_interpolation
 path-returns-then-has_interpolation t c = path_parts _ _ _ c.node_pointer-p.ensures _ c.has_interpolation.ensures _ c.waiting_count-base.ensures c.if-has_interpolation.true c.parts.ensures c.alloc_expr.ensures
-
-pub path-alloc_lone-requires : goal.path-alloc_lone-requires
-unfolding ValidExpr Valid
-path-alloc_lone-requires t c = (omega (arith, c.requires), tt)
 
 pub path-returns : goal.path-returns
 path-returns t c = path_literal _ _ _ c.node_pointer-p.ensures _ c.has_interpolation.ensures _ c.if-has_interpolation.false c.node_text-t.ensures c.alloc_lone.ensures
@@ -383,17 +338,13 @@ push-returns t c = dynamic_pushed _ _ _ _ c.opt-k.ensures c.opt-v.ensures c.add_
 
 pub put-returns-in-None : goal.put-returns-in-None
 unfolding NextIn
-put-returns-in-None t c = attrpath_none _ _ _ _ (two_places _ _ c.kid-first.ensures c.kid-second.ensures) (rw c.in-None.is at c.next_in.ensures) c.push.ensures
+put-returns-in-None t c = attrpath_none _ _ _ _ (two_places _ _ c.kid-first.ensures c.kid-second.ensures) (rw c.in-None.is at c.next.ensures) c.push.ensures
 
 pub put-returns-in-Some : goal.put-returns-in-Some
 unfolding NextIn
-put-returns-in-Some t c = attrpath_there _ _ _ _ (two_places _ _ c.kid-first.ensures c.kid-second.ensures) (rw c.in-Some.is at c.next_in.ensures) c.nested.ensures
+put-returns-in-Some t c = attrpath_there _ _ _ _ (two_places _ _ c.kid-first.ensures c.kid-second.ensures) (rw c.in-Some.is at c.next.ensures) c.nested.ensures
 
 -- ---- set
-
-pub set-alloc_expr-requires : goal.set-alloc_expr-requires
-unfolding ValidExpr
-set-alloc_expr-requires t c = (omega (arith, c.requires), tt)
 
 pub set-returns : goal.set-returns
 set-returns t c = set_lowers _ _ _ _ _ _ c.waiting_count-base.ensures c.node_pointer-p.ensures c.name_kind_of_set-kind.ensures c.node_flag-is_rec.ensures c.binds.ensures c.alloc_expr.ensures
@@ -409,20 +360,12 @@ src-returns t c = source_there _ _ _ _ _ _ c.in_ok-place.was c.kid-inner.ensures
 -- ---- step
 
 pub step-returns-in-Static : goal.step-returns-in-Static
-step-returns-in-Static t c = step_static _ _ _ _ c.attr_kind.ensures _ c.node_pointer-p.ensures _ _ _ _ _ c.in-Static.is c.get_or_create_nested_static-t.ensures c.nested.ensures
+step-returns-in-Static t c = step_static _ _ _ _ c.attr_kind.ensures _ c.node_pointer-p.ensures _ _ _ _ c.in-Static.is c.get_or_create_nested_static-t.ensures c.nested.ensures
 
 pub step-returns-in-Dynamic : goal.step-returns-in-Dynamic
-step-returns-in-Dynamic t c = step_dynamic _ _ _ _ c.attr_kind.ensures _ c.node_pointer-p.ensures _ _ _ _ _ c.in-Dynamic.is c.nest-e.ensures c.opt-made.ensures c.add_dynamic.ensures
+step-returns-in-Dynamic t c = step_dynamic _ _ _ _ c.attr_kind.ensures _ c.node_pointer-p.ensures _ _ _ _ c.in-Dynamic.is c.nest-e.ensures c.opt-made.ensures c.add_dynamic.ensures
 
 -- ---- str
-
-pub str-alloc_lone-requires : goal.str-alloc_lone-requires
-unfolding ValidExpr Valid
-str-alloc_lone-requires t c = (omega (arith, c.requires), tt)
-
-pub str-alloc_expr-requires : goal.str-alloc_expr-requires
-unfolding ValidExpr
-str-alloc_expr-requires t c = (omega (arith, c.requires), tt)
 
 pub str-returns-in-Some : goal.str-returns-in-Some
 str-returns-in-Some t c = string_literal _ _ _ c.node_pointer-p.ensures _ c.get_str_literal.ensures _ c.in-Some.is c.alloc_lone.ensures
@@ -442,10 +385,6 @@ there-returns t c = there_node _ _ _ c.in_ok-n.was c.expr.ensures
 
 pub unop-returns-then-op-eq0 : goal.unop-returns-then-op-eq0
 unop-returns-then-op-eq0 t c = unop_missing _ _ _ c.node_flag-op.ensures c.if-op-eq0.true c.alloc_missing.ensures
-
-pub unop-alloc_lone-requires : goal.unop-alloc_lone-requires
-unfolding ValidExpr
-unop-alloc_lone-requires t c = (omega (arith, c.requires), tt)
 
 pub unop-returns : goal.unop-returns
 unop-returns t c = unop_lowers _ _ _ (one_child _ _ c.kid-first.ensures c.node_pointer-p.ensures) _ _ c.node_flag-op.ensures c.if-op-eq0.false c.opt-e.ensures c.alloc_lone.ensures

@@ -66,10 +66,10 @@ abbrev pub decreases-list : goal.decreases-list
 decreases-list l = 131072 * l.depth + 7
 
 abbrev pub decreases-nest : goal.decreases-nest
-decreases-nest l = 131072 * l.depth + 9 + 4 * (kid_limit - l.after)
+decreases-nest l = 131072 * l.depth + 9 + 4 * (kid_limit - l.rest.after)
 
 abbrev pub decreases-nested : goal.decreases-nested
-decreases-nested l = 131072 * l.depth + 8 + 4 * (kid_limit - l.after)
+decreases-nested l = 131072 * l.depth + 8 + 4 * (kid_limit - l.rest.after)
 
 abbrev pub decreases-opt : goal.decreases-opt
 decreases-opt l = 131072 * l.depth + 1
@@ -99,7 +99,7 @@ abbrev pub decreases-src : goal.decreases-src
 decreases-src l = 131072 * l.depth + 2
 
 abbrev pub decreases-step : goal.decreases-step
-decreases-step l = 131072 * l.depth + 10 + 4 * (kid_limit - l.after)
+decreases-step l = 131072 * l.depth + 10 + 4 * (kid_limit - l.rest.after)
 
 abbrev pub decreases-str : goal.decreases-str
 decreases-str l = 131072 * l.depth + 4

@@ -1,16 +1,6 @@
 -- `lower::leaves::ident` meets its contract.
 use Rattle.lower.proofs.LeafLaws.{ident_taken, ident_hole}
-use Rattle.rows.specs.Decoded.{ValidExpr}
-use native.Mathlib.Omega.{arith}
 use Rattle.lower.proofs.leaves.ident.Goals as goal
-
-pub alloc_lone-requires : goal.alloc_lone-requires
-unfolding ValidExpr
-alloc_lone-requires c = (omega arith, tt)
-
-pub alloc_lone-requires-in-None : goal.alloc_lone-requires-in-None
-unfolding ValidExpr
-alloc_lone-requires-in-None c = (omega arith, tt)
 
 pub returns-in-Some : goal.returns-in-Some
 returns-in-Some c = ident_taken _ _ _ c.node_pointer-p.ensures _ c.name_of_ident.ensures _ c.in-Some.is c.alloc_lone.ensures

@@ -1,12 +1,7 @@
 -- `lower::leaves::missing_node` meets its contract.
 use Rattle.lower.proofs.LeafLaws.{pointed}
-use Rattle.rows.specs.Decoded.{expr_with, ValidExpr}
-use native.Mathlib.Omega.{arith}
+use Rattle.rows.specs.Decoded.{expr_with}
 use Rattle.lower.proofs.leaves.missing_node.Goals as goal
-
-pub alloc_lone-requires : goal.alloc_lone-requires
-unfolding ValidExpr
-alloc_lone-requires c = (omega arith, tt)
 
 pub returns : goal.returns
 unfolding expr_with
