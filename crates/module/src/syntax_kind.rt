@@ -47,7 +47,8 @@ impl SyntaxKind {
         self as u32
     }
 
-    // The kind that has the number. No kind has 0 or a number above 33.
+    // The kind that has the number. No kind has 0 or a number above 33. No `TryFrom`: of such a number there is nothing
+    // else to tell, and callers take a None or say in their own words what is wrong.
     #[tactic(auto, unfolding(crate::specs::SyntaxKinds::syntax_of_number, crate::specs::SyntaxKinds::syntax_kinds))]
     pub fn of(number: u32) -> Option<SyntaxKind>
         ensures { result ≡ syntax_of_number number }

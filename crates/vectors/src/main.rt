@@ -34,6 +34,7 @@ enum Call {
 }
 
 impl Call {
+    // No `TryFrom`: of another number there is nothing else to tell.
     fn of(number: u32) -> Option<Call> {
         match number {
             0 => Some(Call::AskReference),
