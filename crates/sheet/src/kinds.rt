@@ -19,7 +19,7 @@ pub enum TextRule {
 
 // The highest flag of a kind.
 #[tactic(auto, unfolding(spec::specs::Kinds::kind_of, spec::specs::Kinds::kinds, module::specs::SyntaxKinds::number_of_syntax))]
-fn flags_of(kind: SyntaxKind) -> u32
+pub(crate) fn flags_of(kind: SyntaxKind) -> u32
     ensures { result ≡ (kind_of (number_of_syntax kind)).flags }
 {
     match kind {
@@ -31,7 +31,7 @@ fn flags_of(kind: SyntaxKind) -> u32
 }
 
 #[tactic(auto, unfolding(spec::specs::Kinds::kind_of, spec::specs::Kinds::kinds, module::specs::SyntaxKinds::number_of_syntax))]
-fn text_rule_of(kind: SyntaxKind) -> TextRule
+pub(crate) fn text_rule_of(kind: SyntaxKind) -> TextRule
     ensures { rule_of result ≡ (kind_of (number_of_syntax kind)).text }
 {
     match kind {
