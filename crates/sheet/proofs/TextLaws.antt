@@ -3,16 +3,20 @@ use Rattle.std.specs.Prelude as rust
 use Rattle.std.specs.Prelude.{position}
 use Rattle.std.specs.List.{position_or_len}
 use Rattle.std.specs.Borrow.{Bor}
+use Rattle.std.specs.Bool.{MatchBool}
+use Rattle.std.specs.List.{AllWithin, HoldsAt}
+use Rattle.std.specs.Simd.{first_chunks}
 use Rattle.std.proofs.lemmas.List.Sums.{position_or_len_is, fails_before_first, passes_at_first}
-use Rattle.std.proofs.lemmas.List.{get_or-take}
+use Rattle.std.proofs.lemmas.List.{get_or-take, get_or-map, take_more, take_all}
 use mathlib.Core.Path.{◌≡◌, refl, sym, ap, ◌∙◌}
 use mathlib.Core.Bool.{Bool, true, false, ◌&&◌, not}
-use mathlib.Core.List.{List, [], ◌∷◌, ◌++◌, append-nil, append_assoc}
+use mathlib.Core.List.{List, [], ◌∷◌}
+use mathlib.Core.List.{map as mapped}
 use mathlib.Core.Option.{Option, none, some, map}
 use Prim.Native.Nat.{ℕ, zero, suc, ◌+◌, ◌-◌, ◌*◌, ◌/◌, ◌%◌, ◌≤◌, ◌<◌}
 use native.Mathlib.Omega.{arith}
 use native.Mathlib.Decide.{dec_lt}
-use lib.ListN.{length, get_or, take, drop, set, length-set, length-drop, length-append}
+use lib.ListN.{length, get_or, take, drop, set, length-drop}
 use lib.Seq.{length-take-le}
 use lib.Dec.{eqb, leb, ltb}
 use borrow.Author.Tests.{le-leb, leb-true, ltb-true, ltb-false, le-ltb, eq-eqb, ne_eqb, eqb-true, eqb-false}
@@ -305,13 +309,6 @@ module _ (s : List ℕ) (at : ℕ) (h : at ≤ length s) where
           pub text_formed : Formed hex decoded any s (record { start = at + 5; end = at + 5 + n })
           text_formed = record { ordered = omega arith; within = text_long; formed = rw spanned is_text; fits = refl }
 
--- ---- two digits at the front
-pub decoded_front : (l : Text) → 2 ≤ length l → decoded l ≡ (16 * digit_of (get_or l 0 0) + digit_of (get_or l 1 0)) ∷ decoded (take (length l - 2) (drop 2 l))
-unfolding decoded
-decoded_front [] h = absurd (omega (arith, h))
-decoded_front (a ∷ []) h = absurd (omega (arith, h))
-decoded_front (a ∷ b ∷ l) h = rw (slice_from (a ∷ b ∷ l) 2 h)
-
 pub decoded_short : (v : Text) → length v < 2 → decoded v ≡ []
 unfolding decoded
 decoded_short [] h = refl
@@ -324,6 +321,23 @@ length_decoded [] = refl
 length_decoded (a ∷ []) = refl
 length_decoded (a ∷ b ∷ v) = let e = length_decoded v in omega arith
 
+-- ---- two digits each
+abbrev pub byte_of : List ℕ → ℕ
+byte_of p = 16 * digit_of (get_or p 0 0) + digit_of (get_or p 1 0)
+
+length-first_chunks : (n : ℕ) (v : Text) → length (first_chunks 2 n v) ≡ n
+length-first_chunks zero v = refl
+length-first_chunks (suc n) v = ap suc (length-first_chunks n (drop 2 v))
+
+decoded_pairs : (v : Text) (n : ℕ) → n ≡ length v / 2 → decoded v ≡ mapped byte_of (first_chunks 2 n v)
+unfolding decoded
+decoded_pairs [] zero e = refl
+decoded_pairs [] (suc n) e = absurd (omega (arith, e))
+decoded_pairs (a ∷ []) zero e = refl
+decoded_pairs (a ∷ []) (suc n) e = absurd (omega (arith, e))
+decoded_pairs (a ∷ b ∷ v) zero e = absurd (omega (arith, e))
+decoded_pairs (a ∷ b ∷ v) (suc n) e = ap (λ (t : Text). (16 * digit_of a + digit_of b) ∷ t) (decoded_pairs v n (omega (arith, e)))
+
 -- ---- the rules
 pub empty_is : (v : Text) → ltb (length v) 2 ≡ is_empty (decoded v)
 unfolding is_empty decoded
@@ -331,20 +345,29 @@ empty_is [] = refl
 empty_is (a ∷ []) = refl
 empty_is (a ∷ b ∷ v) = rw (le-ltb (length (a ∷ b ∷ v)) 2 (omega arith))
 
--- the loop over the bytes of a number
-module _ (text left : Text) (e : all_digits (decoded text) ≡ all_digits (decoded left)) where
-  module _ (h : 2 ≤ length left) (b : ℕ) (f : b ≡ 16 * digit_of (get_or left 0 0) + digit_of (get_or left 1 0)) where
-    pub numbers_other : is_digit b ≡ false → false ≡ all_digits (decoded text)
-    unfolding all_digits
-    numbers_other q = let g : is_digit (16 * digit_of (get_or left 0 0) + digit_of (get_or left 1 0)) ≡ false = rw f at q in sym (e ∙ rw (decoded_front left h, g))
+-- all bytes of a text are digits, by what `all` says of its pairs
+numbers_all : (ps : List (List ℕ)) → ((k : ℕ) (d : List ℕ) → 0 ≤ k → k < length ps → is_digit (byte_of (get_or ps k d)) ≡ true)
+    → true ≡ all_digits (mapped byte_of ps)
+unfolding all_digits
+numbers_all [] h = refl
+numbers_all (p ∷ ps) h = rw (h 0 [] (omega arith) (omega arith)) (numbers_all ps (λ k d l m. h (suc k) d (omega arith) (omega arith)))
 
-    pub numbers_more : is_digit b ≡ true → all_digits (decoded text) ≡ all_digits (decoded (take (length left - 2) (drop 2 left)))
-    unfolding all_digits
-    numbers_more q = let g : is_digit (16 * digit_of (get_or left 0 0) + digit_of (get_or left 1 0)) ≡ true = rw f at q in e ∙ rw (decoded_front left h, g)
+numbers_other : (ps : List (List ℕ)) (k : ℕ) → k < length ps → is_digit (byte_of (get_or ps k [])) ≡ false → false ≡ all_digits (mapped byte_of ps)
+unfolding all_digits
+numbers_other [] k l h = absurd (omega (arith, l))
+numbers_other (p ∷ ps) zero l h = rw h
+numbers_other (p ∷ ps) (suc k) l h = go (is_digit (byte_of p)) (numbers_other ps k (omega arith) h)
+  where
+    go : (t : Bool) → false ≡ all_digits (mapped byte_of ps) → false ≡ (t && all_digits (mapped byte_of ps))
+    go true e = e
+    go false e = refl
 
-  pub numbers_end : length left < 2 → true ≡ all_digits (decoded text)
-  unfolding all_digits
-  numbers_end h = sym (e ∙ rw (decoded_short left h))
+pub numbers_told : (v : Text) (n : ℕ) → n ≡ length v / 2 → (r : Bool)
+    → MatchBool r (AllWithin (λ p. is_digit (byte_of p) ≡ true) (first_chunks 2 n v) 0 (length (first_chunks 2 n v)))
+    ((k : ℕ) × (k < length (first_chunks 2 n v)) × HoldsAt (λ p. is_digit (byte_of p) ≡ false) (first_chunks 2 n v) k)
+    → r ≡ all_digits (decoded v)
+numbers_told v n e true h = rw (decoded_pairs v n e) (numbers_all (first_chunks 2 n v) h)
+numbers_told v n e false (k, l, h) = rw (decoded_pairs v n e) (numbers_other (first_chunks 2 n v) k l (h []))
 
 module _ (t : Text) where
   pub number_none : true ≡ is_empty t → false ≡ text_fits digits 0 t
@@ -414,35 +437,21 @@ module _ (t : Text) (flag : ℕ) where
   unfolding text_fits
   fits_no_name x e f r q = rw (e, ne_eqb flag 1 f) q
 
--- ---- the loop that writes the bytes: some are written, and those of what is left of the text are to come
-pub record Written (d₀ : List ℕ) (at : ℕ) (text : Text) (d : List ℕ) (next : ℕ) (left : Text) : Type 0 where
-  pub done : Text
-  pub long : length d ≡ length d₀
-  pub here : next ≡ at + length done
-  pub same : d ≡ splice d₀ at done
-  pub rest : decoded text ≡ done ++ decoded left
-
-pub written_none : (d : List ℕ) (at : ℕ) (text : Text) → Written d at text d at text
+-- ---- the loop that writes the bytes: the first i of them are written
+pub written_none : (d : List ℕ) (at : ℕ) (text : Text) → d ≡ splice d at (take 0 (decoded text))
 unfolding splice
-written_none d at text = record { done = []; long = refl; here = omega arith; same = refl; rest = refl }
+written_none d at text = refl
 
-module _ {d₀ : List ℕ} {at : ℕ} {text : Text} {d : List ℕ} {next : ℕ} {left : Text} (w : Written d₀ at text d next left) where
-  module _ (h : 2 ≤ length left) where
-    pub written_room : at + length text / 2 ≤ length d₀ → next < length d
-    written_room k =
-        let e = ap length w.rest ∙ length-append w.done (decoded left) in
-        let f = ap length (decoded_front left h) in
-        omega (arith, e, f, w.here, w.long, length_decoded text)
+module _ (text : Text) (n : ℕ) (e : n ≡ length text / 2) where
+  pub written_more : (d₀ d : List ℕ) (at i : ℕ) → d ≡ splice d₀ at (take i (decoded text)) → i < n → (b : ℕ) → b ≡ byte_of (get_or (first_chunks 2 n text) i [])
+      → set d (at + i) b ≡ splice d₀ at (take (i + 1) (decoded text))
+  written_more d₀ d at i w h b f =
+      let long : i < length (decoded text) = omega (arith, length_decoded text) in
+      let some_written = length-take-le i (decoded text) (omega arith) in
+      let one = get_or-map byte_of (first_chunks 2 n text) i [] 0 (rw (length-first_chunks n text) h) in
+      let byte : get_or (decoded text) i 0 ≡ b = rw (decoded_pairs text n e) one ∙ sym f in
+      let after = splice_after d₀ at (take i (decoded text)) b in
+      rw (w, take_more (decoded text) i 0 long, byte) (rw some_written at after)
 
-    pub written_more : (b : ℕ) → b ≡ 16 * digit_of (get_or left 0 0) + digit_of (get_or left 1 0)
-        → Written d₀ at text (set d next b) (next + 1) (take (length left - 2) (drop 2 left))
-    written_more b e = record {
-      done = w.done ++ (b ∷ []);
-      long = length-set d next b ∙ w.long;
-      here = omega (arith, w.here, length-append w.done (b ∷ []));
-      same = rw (w.same, w.here) (splice_after d₀ at w.done b);
-      rest = w.rest ∙ rw (decoded_front left h, ← e) (sym (append_assoc w.done (b ∷ []) (decoded (take (length left - 2) (drop 2 left)))));
-    }
-
-  pub written_all : length left < 2 → d ≡ splice d₀ at (decoded text)
-  written_all h = w.same ∙ ap (splice d₀ at) (sym (w.rest ∙ rw (decoded_short left h) (append-nil w.done)))
+  pub written_all : (d₀ d : List ℕ) (at i : ℕ) → d ≡ splice d₀ at (take i (decoded text)) → n ≤ i → d ≡ splice d₀ at (decoded text)
+  written_all d₀ d at i w h = w ∙ ap (splice d₀ at) (take_all i (decoded text) (omega (arith, length_decoded text)))

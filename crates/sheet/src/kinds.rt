@@ -43,7 +43,8 @@ pub(crate) fn text_rule_of(kind: SyntaxKind) -> TextRule
     }
 }
 
-// The same by the number of a kind.
+// The same by the number of a kind. It promises something for every number, and to take a `SyntaxKind` would ask more of
+// callers.
 pub fn flags(kind: u32) -> u32
     ensures { result ≡ (kind_of kind).flags }
 {
@@ -53,6 +54,7 @@ pub fn flags(kind: u32) -> u32
     }
 }
 
+// By number for the same reason: a number that is no kind has its rule too.
 pub fn text_rule(kind: u32) -> TextRule
     ensures { rule_of result ≡ (kind_of kind).text }
 {

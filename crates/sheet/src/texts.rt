@@ -56,14 +56,10 @@ fn is_empty(text: &[u8]) -> bool
 fn all_digits(text: &[u8]) -> bool
     ensures { result ≡ all_digits (decoded text.now) }
 {
-    let mut left = text;
-    while let [high, low, rest @ ..] = left {
-        if !hex_byte(*high, *low).is_ascii_digit() {
-            return false;
-        }
-        left = rest;
-    }
-    true
+    let (pairs, _) = text.as_chunks::<2>();
+    pairs
+        .iter()
+        .all(|[high, low]| hex_byte(*high, *low).is_ascii_digit())
 }
 
 // One byte or more, all of them digits.
@@ -119,12 +115,9 @@ pub fn decode_text(text: &[u8], d: &mut [u8], at: usize)
     requires { at + length text.now / 2 ≤ length d.old }
     ensures { d.new ≡ splice d.old at (decoded text.now) }
 {
-    let mut next = at;
-    let mut left = text;
-    while let [high, low, rest @ ..] = left {
-        d[next] = hex_byte(*high, *low);
-        next += 1;
-        left = rest;
+    let (pairs, _) = text.as_chunks::<2>();
+    for (i, [high, low]) in pairs.iter().enumerate() {
+        d[at + i] = hex_byte(*high, *low);
     }
 }
 
