@@ -6,31 +6,33 @@ use Rattle.std.specs.Borrow.{Bor}
 use Rattle.std.specs.Bool.{MatchBool}
 use Rattle.std.specs.List.{AllWithin, HoldsAt}
 use Rattle.std.specs.Simd.{first_chunks}
+use Rattle.std.specs.Int.{from_be_bytes}
 use Rattle.std.proofs.lemmas.List.Sums.{position_or_len_is, fails_before_first, passes_at_first}
 use Rattle.std.proofs.lemmas.List.{get_or-take, get_or-map, take_more, take_all}
 use mathlib.Core.Path.{◌≡◌, refl, sym, ap, ◌∙◌}
 use mathlib.Core.Bool.{Bool, true, false, ◌&&◌, not}
-use mathlib.Core.List.{List, [], ◌∷◌}
+use mathlib.Core.List.{List, [], ◌∷◌, append-nil}
 use mathlib.Core.List.{map as mapped}
+use mir.Syntax.{w64}
 use mathlib.Core.Option.{Option, none, some, map}
 use Prim.Native.Nat.{ℕ, zero, suc, ◌+◌, ◌-◌, ◌*◌, ◌/◌, ◌%◌, ◌≤◌, ◌<◌}
 use native.Mathlib.Omega.{arith}
 use native.Mathlib.Decide.{dec_lt}
-use lib.ListN.{length, get_or, take, drop, set, length-drop}
-use lib.Seq.{length-take-le}
+use lib.ListN.{length, get_or, take, drop, set, length-drop, drop_of_length-le}
+use lib.Seq.{length-take-le, drop-cons}
 use lib.Dec.{eqb, leb, ltb}
 use borrow.Author.Tests.{le-leb, leb-true, ltb-true, ltb-false, le-ltb, eq-eqb, ne_eqb, eqb-true, eqb-false}
 use Rattle.words.specs.Runs.{run, splice}
-use Rattle.words.proofs.RunLaws.{splice_after}
+use Rattle.words.proofs.RunLaws.{splice_is, splice_after}
 use Rattle.spec.specs.Basics.{Text, bytes, maybe}
 use Rattle.spec.specs.Kinds.{TextRule, no_text, any_text, digits, float, named}
 use Rattle.spec.specs.Sheet.{is_digit, all_digits, hex_digit, hex, bits_from, is_float, is_empty, text_fits, malformed, got, bad, after, up_to_end, wrong_text}
 use Rattle.sheet.specs.Keyed.{field_of}
 use Rattle.sheet.specs.Lines.{rest_of}
 use Rattle.sheet.specs.Verdicts.{Formed}
-use Rattle.sheet.specs.Texts.{is_there, is_hex, digit_of, byte_at, decoded, four_more}
+use Rattle.sheet.specs.Texts.{is_there, is_hex, digit_of, decoded}
 use Rattle.sheet.proofs.DecimalLaws.{digit_is}
-use Rattle.sheet.proofs.LineLaws.{line_at, line_other, rest_is, field_other, field_malformed, field_right, slice_from, first_some, first_none, end_found, end_missing}
+use Rattle.sheet.proofs.LineLaws.{line_at, line_other, rest_is, field_other, field_malformed, field_right, first_some, first_none, end_found, end_missing}
 
 -- ---- a digit
 hex_number : (c : ℕ) → 48 ≤ c → c ≤ 57 → hex_digit c ≡ some (c - 48)
@@ -383,29 +385,36 @@ pub float_long : (t : Text) → (length t / 2 ≡ 8 → ⊥) → false ≡ is_fl
 unfolding is_float
 float_long t n = rw (ne_eqb (length (decoded t)) 8 (λ e. n (sym (length_decoded t) ∙ e)))
 
-bits_four : (t : Text) (v : ℕ) → 8 ≤ length t → bits_from v (decoded t) ≡ bits_from (four_more t v) (decoded (drop 8 t))
-unfolding decoded bits_from four_more byte_at
-bits_four [] v h = absurd (omega (arith, h))
-bits_four (a ∷ []) v h = absurd (omega (arith, h))
-bits_four (a ∷ b ∷ []) v h = absurd (omega (arith, h))
-bits_four (a ∷ b ∷ c ∷ []) v h = absurd (omega (arith, h))
-bits_four (a ∷ b ∷ c ∷ d ∷ []) v h = absurd (omega (arith, h))
-bits_four (a ∷ b ∷ c ∷ d ∷ e ∷ []) v h = absurd (omega (arith, h))
-bits_four (a ∷ b ∷ c ∷ d ∷ e ∷ f ∷ []) v h = absurd (omega (arith, h))
-bits_four (a ∷ b ∷ c ∷ d ∷ e ∷ f ∷ g ∷ []) v h = absurd (omega (arith, h))
-bits_four (a ∷ b ∷ c ∷ d ∷ e ∷ f ∷ g ∷ i ∷ l) v h = refl
+bits_more : (xs : List ℕ) (i v : ℕ) → i < length xs → bits_from v (drop i xs) ≡ bits_from (256 * v + get_or xs i 0) (drop (suc i) xs)
+unfolding bits_from
+bits_more xs i v h = rw (drop-cons xs i 0 h)
 
-pub float_bits_lem : (t : Text) → length t / 2 ≡ 8 → (high bits : ℕ) → high ≡ four_more t 0 → bits ≡ four_more (take (length t - 8) (drop 8 t)) high
-    → leb bits 9218868437227405312 ≡ is_float (decoded t)
-unfolding is_float bits_from
-float_bits_lem t e high bits f g =
-    let whole = bits_four t 0 (omega arith) ∙ bits_four (drop 8 t) (four_more t 0) (omega (arith, length-drop 8 t)) in
-    let none_left = decoded_short (drop 8 (drop 8 t)) (omega (arith, length-drop 8 (drop 8 t), length-drop 8 t)) in
-    let z : bits ≡ bits_from 0 (decoded t) = rw (slice_from t 8 (omega arith), f) at g ∙ sym (whole ∙ rw none_left (done (four_more (drop 8 t) (four_more t 0)))) in
-    rw (eq-eqb (length (decoded t)) 8 (length_decoded t ∙ e), ← z)
-  where
-    done : (v : ℕ) → bits_from v [] ≡ v
-    done v = refl
+bits_end : (xs : List ℕ) (i v : ℕ) → length xs ≤ i → bits_from v (drop i xs) ≡ v
+unfolding bits_from
+bits_end xs i v h = rw (drop_of_length-le xs {i = i} h)
+
+module _ (text : Text) (e : length text / 2 ≡ 8) where
+  eight : length (decoded text) ≡ 8
+  eight = length_decoded text ∙ e
+
+  bits_eight : (xs : List ℕ) → length xs ≡ 8 → bits_from 0 xs ≡ from_be_bytes w64 xs
+  bits_eight xs l =
+      bits_more xs 0 0 (omega arith) ∙ bits_more xs 1 _ (omega arith) ∙ bits_more xs 2 _ (omega arith) ∙ bits_more xs 3 _ (omega arith)
+      ∙ bits_more xs 4 _ (omega arith) ∙ bits_more xs 5 _ (omega arith) ∙ bits_more xs 6 _ (omega arith) ∙ bits_more xs 7 _ (omega arith)
+      ∙ bits_end xs 8 _ (omega arith) ∙ omega arith
+
+  -- eight bytes are written over eight, and nothing is left of those
+  written_over : (d bytes : List ℕ) → length d ≡ 8 → bytes ≡ splice d 0 (decoded text) → bytes ≡ decoded text
+  written_over d bytes l f =
+      let parts = splice_is d 0 (decoded text) 8 (sym eight) (omega arith) in
+      let rest = drop_of_length-le d {i = 8} (omega arith) in
+      f ∙ parts ∙ rw rest (append-nil (decoded text))
+
+  pub float_told : (d bytes : List ℕ) (bits : ℕ) → length d ≡ 8 → bytes ≡ splice d 0 (decoded text) → bits ≡ from_be_bytes w64 bytes
+      → leb bits 9218868437227405312 ≡ is_float (decoded text)
+  unfolding is_float
+  float_told d bytes bits l f g =
+      rw (eq-eqb (length (decoded text)) 8 eight, g, written_over d bytes l f, bits_eight (decoded text) eight) refl
 
 -- ---- the rule of a kind
 module _ (t : Text) (flag : ℕ) where

@@ -7,7 +7,7 @@ ghost use Rattle.spec.specs.Kinds.{kind_of, digits};
 ghost use Rattle.spec.specs.Sheet.{hex, all_digits, is_empty, is_float, text_fits, wrong_text, field};
 ghost use Rattle.module.specs.SyntaxKinds.{number_of_syntax};
 ghost use Rattle.sheet.specs.Rules.{rule_of};
-ghost use Rattle.sheet.specs.Texts.{is_hex, digit_of, decoded, four_more, got_text, TextInside};
+ghost use Rattle.sheet.specs.Texts.{is_hex, digit_of, decoded, got_text, TextInside};
 ghost use Rattle.sheet.specs.Verdicts.{got_span, FormedIn};
 
 use crate::faults::{Fault, Refused};
@@ -69,17 +69,6 @@ fn is_number(text: &[u8]) -> bool
     !is_empty(text) && all_digits(text)
 }
 
-// Four bytes more, highest first.
-fn four_more(text: &[u8], value: u64) -> u64
-    requires { (8 ≤ length text.now) × (value < 4294967296) }
-    ensures { (result ≡ four_more text.now value) × (result < 4294967296 * value + 4294967296) }
-{
-    let a = 256 * value + u64::from(hex_byte(text[0], text[1]));
-    let b = 256 * a + u64::from(hex_byte(text[2], text[3]));
-    let c = 256 * b + u64::from(hex_byte(text[4], text[5]));
-    256 * c + u64::from(hex_byte(text[6], text[7]))
-}
-
 // Eight bytes, their number at most that of positive infinity.
 fn is_float(text: &[u8]) -> bool
     ensures { result ≡ is_float (decoded text.now) }
@@ -87,8 +76,9 @@ fn is_float(text: &[u8]) -> bool
     if text.len() / 2 != 8 {
         return false;
     }
-    let high = four_more(text, 0);
-    four_more(&text[8..], high) <= 0x7ff0_0000_0000_0000
+    let mut bytes = [0; 8];
+    decode_text(text, &mut bytes, 0);
+    u64::from_be_bytes(bytes) <= 0x7ff0_0000_0000_0000
 }
 
 // Whether a text fits its kind's rule.
