@@ -103,7 +103,7 @@ module _ (n : ℕ) (o : Option SyntaxKind) (h : o ≡ syntax_of_number n) where
   pub kind_told : (k : SyntaxKind) → o ≡ Some k → kind_of (number_of_syntax k) ≡ kind_of n
   kind_told k e = ap kind_of (syntax_told n k (sym h ∙ e))
 
-  no_kind : o ≡ None → kind_of n ≡ places [] none
+  pub no_kind : o ≡ None → kind_of n ≡ places [] none
   unfolding kind_of kinds
   no_kind e = go n (syntax_gap n (sym h ∙ e))
     where

@@ -57,6 +57,11 @@ module _ (kind kids : ℕ) (p : Places) (f : Fills p (kind_of kind)) where
       ∙ (sym (ap (λ b. b && (if eqb kind 23 then leb kids 16 else true)) (le-leb _ _ (omega (arith, counted))))
       ∙ count_in_lem (math.some (slot_of slot)) (ap listed_in q))
 
+-- a kind without places has no kid
+pub count_bare : (kind kids : ℕ) → kind_of kind ≡ Kinds.places [] math.none → eqb kids 0 ≡ count_fits kind kids
+unfolding count_fits
+count_bare kind kids e = sym (ap (λ (k : Kinds.Kind). count_in kind kids k.counted k.listed) e)
+
 -- what a slice gives after its first element
 pub after_first : (xs : List Slot) → 1 ≤ length xs → (x : Kinds.Slot) × (map slot_of xs ≡ x ∷ map slot_of (take (length xs - 1) (drop 1 xs)))
 after_first [] h = absurd (omega arith)
