@@ -10,6 +10,7 @@ use lib.Dec.{ltb}
 use borrow.Author.Tests.{ltb-true, ltb-false}
 use Rattle.words.specs.Runs.{run}
 use Rattle.words.specs.Words.{word, number, set_word}
+use Rattle.module.specs.SyntaxKinds.{number_of_syntax}
 use Rattle.sheet.specs.Nodes.{node_of}
 use Rattle.sheet.specs.declared.nodes.Node as row
 use Rattle.layout.specs.Layout.{node_limit, kid_limit, sheet_text_limit, node_row, texts_place, nodes_at, kids_at, texts_at, store_bytes, Long}
@@ -169,7 +170,7 @@ module _ {t u : List ℕ} {i kids texts : ℕ} (r : Rows t i kids texts) (p : Ke
       }
 
 -- ---- one row more
-node_new : (s t u : List ℕ) (i : ℕ) (n : row.Node) (first text last : ℕ) → RowPut t u i n.kind n.from n.to n.flag text last
+node_new : (s t u : List ℕ) (i : ℕ) (n : row.Node) (first text last : ℕ) → RowPut t u i (number_of_syntax n.kind) n.from n.to n.flag text last
     → word u (nodes_at + node_row * i) ≡ first → first ≤ last → last ≤ kid_limit
     → rows_from (kid_in u) first last ≡ kids_in (span_of s n.kids)
     → text_in u text ≡ text_from (span_of s n.text) → node_in u i ≡ node_of s n
@@ -193,7 +194,7 @@ module _ (s : List ℕ) (n : row.Node) (i : ℕ) (f : Front) (t t₁ t₂ u : Li
     (r : Rows t i f.kids f.texts)
     (k : KidsIn (span_of s n.kids) t t₁ f.kids last)
     (x : TextBrought (span_of s n.text) t₁ t₂ f.texts texts)
-    (words : RowPut t₂ u i n.kind n.from n.to n.flag f.texts last) where
+    (words : RowPut t₂ u i (number_of_syntax n.kind) n.from n.to n.flag f.texts last) where
   put : Within t₂ u (nodes_at + node_row * i + 4) (nodes_at + node_row * i + 28)
   put = words.wrote
 
