@@ -33,7 +33,7 @@ use Rattle.spec.proofs.general.Sums.{sum_append}
 use Rattle.spec.proofs.room.TextRoom.{text_bytes, node_long}
 use Rattle.std.specs.Prelude as rust
 use Rattle.sheet.specs.declared.faults.Refused.{Refused}
-use Rattle.intake.specs.Bring.{Within, kids_in, Spans, Rows, RowIn, RowOver, RowBrought, ahead, Bringing, Refuses, NodeIn, Stopped, NodeBrought, Counted, AllIn, AllBrought, Brought}
+use Rattle.intake.specs.Bring.{Within, kids_in, Spans, Rows, RowIn, RowOver, RowBrought, ahead, Bringing, Refuses, NodeIn, Stopped, NodeBrought, Counted, AllIn, Brought}
 use Rattle.intake.specs.declared.bring.Front.{Front}
 use Rattle.layout.proofs.RowLaws.{cap_le, rows_same, rows_none, length_rows}
 use Rattle.layout.proofs.Frames.{wrote_none, wrote_then}
@@ -355,18 +355,3 @@ module _ (s t t₀ t₁ : List ℕ) (d : t₀ ≡ set_word t texts_place sheet_t
                 fits = λ n h. text_fits_lem n (omega (arith, ap length these, length_rows (node_in u) count));
               };
         }
-
--- ---- what an answer says, once it is known which it is
-module _ (s : List ℕ) (count i : ℕ) (t u : List ℕ) (r : rust.Option Front) (h : NodeBrought s count i t u r) where
-  pub more_is : {g : Front} → r ≡ rust.Some g → NodeIn s count i g t u
-  more_is e = subst (NodeBrought s count i t u) e h
-
-  pub full_is : r ≡ rust.None → Stopped s t u
-  full_is e = subst (NodeBrought s count i t u) e h
-
-module _ (s : List ℕ) (count : ℕ) (t u : List ℕ) (r : rust.Option ℕ) (h : AllBrought s count t u r) where
-  pub all_is_in : {texts : ℕ} → r ≡ rust.Some texts → AllIn s count texts t u
-  all_is_in e = subst (AllBrought s count t u) e h
-
-  pub all_is_not : r ≡ rust.None → Stopped s t u
-  all_is_not e = subst (AllBrought s count t u) e h

@@ -1,5 +1,5 @@
 -- One row more: its kids, its text and its words are appended, and what was there is kept. Assumes nothing.
-use mathlib.Core.Path.{◌≡◌, refl, sym, ap, ◌∙◌, subst}
+use mathlib.Core.Path.{◌≡◌, refl, sym, ap, ◌∙◌}
 use mathlib.Core.Logic.{inl, inr}
 use mathlib.Core.Bool.{Bool, true, false}
 use mathlib.Core.List.{List, [], ◌∷◌}
@@ -17,10 +17,8 @@ use Rattle.layout.specs.Layout.{node_limit, kid_limit, sheet_text_limit, node_ro
 use Rattle.layout.specs.Rows.{rows_from, marked, set_all}
 use Rattle.layout.specs.Texts.{texts_used, text_in}
 use Rattle.layout.specs.Nodes.{kid_in, first_kid, node_in}
-use Rattle.std.specs.Prelude as rust
 use Rattle.sheet.specs.Lines.{span_of}
-use Rattle.spec.specs.Basics.{Text}
-use Rattle.intake.specs.Bring.{Within, kids_in, KidsIn, KidsOver, KidsBrought, text_from, TextBrought, TextOver, TextIn, Settled, Rows, RowPut, RowIn, RowOver}
+use Rattle.intake.specs.Bring.{Within, kids_in, KidsIn, KidsOver, text_from, TextBrought, TextOver, Settled, Rows, RowPut, RowIn, RowOver}
 use Rattle.intake.specs.declared.bring.Front.{Front}
 use Rattle.layout.proofs.RowLaws.{cap_le, rows_same, rows_more, between_same}
 use Rattle.layout.proofs.WriteLaws.{Small, all_is}
@@ -267,17 +265,3 @@ module _ (s : List ℕ) (n : row.Node) (f : Front) (t t₁ : List ℕ) where
       → TextOver (span_of s n.text) t₁ t₂ f.texts → RowOver s n t t₂ f
   unfolding text_from
   text_over last k t₂ x = record { over = inr x.over; wrote = rw x.wrote (within_wide nodes_at store_bytes k.wrote (omega arith) (omega (arith, k.room))) }
-
--- ---- what an answer says, once it is known which it is
-module _ (v : Text) (t u : List ℕ) (first : ℕ) (r : rust.Option ℕ) where
-  pub kids_are : {last : ℕ} → KidsBrought v t u first r → r ≡ rust.Some last → KidsIn v t u first last
-  kids_are h e = subst (KidsBrought v t u first) e h
-
-  pub kids_not : KidsBrought v t u first r → r ≡ rust.None → KidsOver v t u first
-  kids_not h e = subst (KidsBrought v t u first) e h
-
-  pub text_are : {last : ℕ} → TextIn v t u first r → r ≡ rust.Some last → TextBrought v t u first last
-  text_are h e = subst (TextIn v t u first) e h
-
-  pub text_not : TextIn v t u first r → r ≡ rust.None → TextOver v t u first
-  text_not h e = subst (TextIn v t u first) e h

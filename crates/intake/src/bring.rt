@@ -47,6 +47,7 @@ fn bring_kids(kids: &[u8], first: u32, store: &mut [u8]) -> Option<u32>
         put32(store, KIDS + 4 * (used as usize), word);
         left = rest;
     }
+    // No place is left: right only where no kid is left either.
     match kid_word(left) {
         Some(_) => None,
         None => Some(KID_LIMIT),
@@ -124,10 +125,7 @@ fn bring_all(sheet: &[u8], nodes: u32, first: Front, store: &mut [u8]) -> Option
 {
     let mut front = first;
     for i in 0..nodes {
-        match bring_node(sheet, nodes, i, front, store) {
-            Some(next) => front = next,
-            None => return None,
-        }
+        front = bring_node(sheet, nodes, i, front, store)?;
     }
     Some(front.texts)
 }

@@ -311,12 +311,6 @@ module _ (s : List ℕ) (at : ℕ) (h : at ≤ length s) where
           pub text_formed : Formed hex decoded any s (record { start = at + 5; end = at + 5 + n })
           text_formed = record { ordered = omega arith; within = text_long; formed = rw spanned is_text; fits = refl }
 
-pub decoded_short : (v : Text) → length v < 2 → decoded v ≡ []
-unfolding decoded
-decoded_short [] h = refl
-decoded_short (a ∷ []) h = refl
-decoded_short (a ∷ b ∷ v) h = absurd (omega (arith, h))
-
 pub length_decoded : (v : Text) → length (decoded v) ≡ length v / 2
 unfolding decoded
 length_decoded [] = refl
