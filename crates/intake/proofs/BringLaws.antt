@@ -245,15 +245,9 @@ pub record Going (s : List ℕ) (count : ℕ) (t : List ℕ) (i : ℕ) (f : Fron
   pub brought : Bringing s count i f u
   pub wrote : Within t u nodes_at store_bytes
 
-pub going_start : (s : List ℕ) (count : ℕ) (f : Front) (t : List ℕ) → Bringing s count 0 f t → Going s count t 0 f t
-going_start s count f t b = record { brought = b; wrote = within_none t nodes_at store_bytes }
-
 module _ {s : List ℕ} {count : ℕ} {t : List ℕ} {i : ℕ} {f : Front} {u : List ℕ} (g : Going s count t i f u) where
   pub going_more : {f₂ : Front} {v : List ℕ} → NodeIn s count i f₂ u v → Going s count t (i + 1) f₂ v
   going_more n = record { brought = n.brought; wrote = within_then g.wrote n.wrote }
-
-  pub going_stopped : {v : List ℕ} → Stopped s u v → Stopped s t v
-  going_stopped n = record { refuses = n.refuses; wrote = within_then g.wrote n.wrote }
 
   pub going_end : count ≤ i → AllIn s count f.texts t u
   unfolding nodes_from give

@@ -11,6 +11,3 @@ pub returns : goal.returns
 returns c =
     lines_read _ _ _ _ c.args.self.counted (omega arith) c.requires.0 c.requires.1 _ c.node.ensures.result_value c.node.ensures.formed_node _ c.in-Ok.is
     _ c.of.ensures
-
-pub of-requires : goal.of-requires
-of-requires c = within _ _ _ _ c.args.self.counted (omega arith) c.requires.0 c.requires.1 _ c.node.ensures.result_value c.node.ensures.formed_node _ c.in-Ok.is
