@@ -1,5 +1,5 @@
 -- The kids of a list, read one after the other and written in their places. Assumes nothing.
-use mathlib.Core.Path.{◌≡◌, refl, sym, ap, ◌∙◌, subst}
+use mathlib.Core.Path.{◌≡◌, refl, sym, ap, ◌∙◌}
 use mathlib.Core.List.{List, [], ◌∷◌, ◌++◌, append-nil, append_assoc}
 use mathlib.Core.Option
 use mathlib.Core.Option.{Option, none, some}
@@ -7,7 +7,6 @@ use Prim.Native.Nat.{ℕ, ◌+◌, ◌-◌, ◌*◌, ◌≤◌, ◌<◌, ◌^◌
 use native.Mathlib.Omega.{arith}
 use lib.ListN.{length, length-append}
 use borrow.Author.Tests.{ne_eqb}
-use Rattle.words.specs.Runs.{run}
 use Rattle.words.specs.Words.{word, set_word}
 use Rattle.words.proofs.WordLaws.{word_set_word_same}
 use Rattle.spec.specs.Basics.{Text, NodeId, maybe}
@@ -82,29 +81,27 @@ module _ {kids : Text} {t₀ : List ℕ} {first : ℕ} {v : Text} {used : ℕ} {
   so_far : length (kids_in kids) ≡ (used - first) + length (kids_in v)
   so_far = ap length f.same ∙ length-append (rows_from (kid_in t) first used) (kids_in v) ∙ ap (λ (n : ℕ). n + length (kids_in v)) filled
 
-  pub filling_end : kids_in v ≡ [] → KidsIn kids t₀ t first used
-  filling_end e =
-      record {
+  pub filling_end : kids_in v ≡ [] → (last : ℕ) → used ≡ last → KidsIn kids t₀ t first last
+  filling_end e last q =
+      rw (← q)
+      (record {
         count = omega (arith, so_far, ap length e, f.low);
         room = f.room;
         wrote = f.wrote;
         same = sym (f.same ∙ ap (λ (l : List (Option NodeId)). rows_from (kid_in t) first used ++ l) e ∙ append-nil (rows_from (kid_in t) first used));
-      }
+      })
 
   module _ {w : ℕ} {rest : Text} (a : After v w rest) where
-    pub filling_full : used ≡ kid_limit → KidsOver kids t₀ t first
+    pub filling_full : kid_limit ≤ used → KidsOver kids t₀ t first
     filling_full e =
         record {
           over = omega (arith, so_far, ap length a.same, f.low);
           wrote = within_wide kids_at texts_at f.wrote (omega arith) (omega arith);
         }
 
-    module _ (long : Long t₀) (small : w < 2 ^ 32) (more : used ≡ kid_limit → ⊥) (u : List ℕ) (e : u ≡ set_word t (kids_at + 4 * used) w) where
+    module _ (long : Long t₀) (small : w < 2 ^ 32) (below : used < kid_limit) (u : List ℕ) (e : u ≡ set_word t (kids_at + 4 * used) w) where
       put : Within t u (kids_at + 4 * used) (kids_at + 4 * used + 4)
       put = rw e (within_put t (kids_at + 4 * used) w)
-
-      below : used < kid_limit
-      below = omega (arith, f.room, more)
 
       last : kid_in u used ≡ marked w
       unfolding kid_in

@@ -33,7 +33,7 @@ use Rattle.spec.proofs.general.Sums.{sum_append}
 use Rattle.spec.proofs.room.TextRoom.{text_bytes, node_long}
 use Rattle.std.specs.Prelude as rust
 use Rattle.sheet.specs.declared.faults.Refused.{Refused}
-use Rattle.intake.specs.Bring.{Within, kids_in, Spans, Rows, RowIn, RowOver, RowBrought, ahead, Bringing, Refuses, NodeIn, Stopped, NodeBrought, Counted, AllIn, AllBrought, Brought}
+use Rattle.intake.specs.Bring.{Within, kids_in, Spans, Rows, RowIn, RowOver, RowBrought, ahead, Bringing, Refuses, NodeIn, Stopped, NodeBrought, Counted, AllIn, Brought}
 use Rattle.intake.specs.declared.bring.Front.{Front}
 use Rattle.layout.proofs.RowLaws.{cap_le, rows_same, rows_none, length_rows}
 use Rattle.layout.proofs.Frames.{wrote_none, wrote_then}
@@ -245,15 +245,9 @@ pub record Going (s : List ℕ) (count : ℕ) (t : List ℕ) (i : ℕ) (f : Fron
   pub brought : Bringing s count i f u
   pub wrote : Within t u nodes_at store_bytes
 
-pub going_start : (s : List ℕ) (count : ℕ) (f : Front) (t : List ℕ) → Bringing s count 0 f t → Going s count t 0 f t
-going_start s count f t b = record { brought = b; wrote = within_none t nodes_at store_bytes }
-
 module _ {s : List ℕ} {count : ℕ} {t : List ℕ} {i : ℕ} {f : Front} {u : List ℕ} (g : Going s count t i f u) where
   pub going_more : {f₂ : Front} {v : List ℕ} → NodeIn s count i f₂ u v → Going s count t (i + 1) f₂ v
   going_more n = record { brought = n.brought; wrote = within_then g.wrote n.wrote }
-
-  pub going_stopped : {v : List ℕ} → Stopped s u v → Stopped s t v
-  going_stopped n = record { refuses = n.refuses; wrote = within_then g.wrote n.wrote }
 
   pub going_end : count ≤ i → AllIn s count f.texts t u
   unfolding nodes_from give
@@ -355,18 +349,3 @@ module _ (s t t₀ t₁ : List ℕ) (d : t₀ ≡ set_word t texts_place sheet_t
                 fits = λ n h. text_fits_lem n (omega (arith, ap length these, length_rows (node_in u) count));
               };
         }
-
--- ---- what an answer says, once it is known which it is
-module _ (s : List ℕ) (count i : ℕ) (t u : List ℕ) (r : rust.Option Front) (h : NodeBrought s count i t u r) where
-  pub more_is : {g : Front} → r ≡ rust.Some g → NodeIn s count i g t u
-  more_is e = subst (NodeBrought s count i t u) e h
-
-  pub full_is : r ≡ rust.None → Stopped s t u
-  full_is e = subst (NodeBrought s count i t u) e h
-
-module _ (s : List ℕ) (count : ℕ) (t u : List ℕ) (r : rust.Option ℕ) (h : AllBrought s count t u r) where
-  pub all_is_in : {texts : ℕ} → r ≡ rust.Some texts → AllIn s count texts t u
-  all_is_in e = subst (AllBrought s count t u) e h
-
-  pub all_is_not : r ≡ rust.None → Stopped s t u
-  all_is_not e = subst (AllBrought s count t u) e h

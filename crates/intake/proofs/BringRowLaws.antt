@@ -1,5 +1,5 @@
 -- One row more: its kids, its text and its words are appended, and what was there is kept. Assumes nothing.
-use mathlib.Core.Path.{◌≡◌, refl, sym, ap, ◌∙◌, subst}
+use mathlib.Core.Path.{◌≡◌, refl, sym, ap, ◌∙◌}
 use mathlib.Core.Logic.{inl, inr}
 use mathlib.Core.Bool.{Bool, true, false}
 use mathlib.Core.List.{List, [], ◌∷◌}
@@ -10,16 +10,15 @@ use lib.Dec.{ltb}
 use borrow.Author.Tests.{ltb-true, ltb-false}
 use Rattle.words.specs.Runs.{run}
 use Rattle.words.specs.Words.{word, number, set_word}
+use Rattle.module.specs.SyntaxKinds.{number_of_syntax}
 use Rattle.sheet.specs.Nodes.{node_of}
 use Rattle.sheet.specs.declared.nodes.Node as row
 use Rattle.layout.specs.Layout.{node_limit, kid_limit, sheet_text_limit, node_row, texts_place, nodes_at, kids_at, texts_at, store_bytes, Long}
 use Rattle.layout.specs.Rows.{rows_from, marked, set_all}
 use Rattle.layout.specs.Texts.{texts_used, text_in}
 use Rattle.layout.specs.Nodes.{kid_in, first_kid, node_in}
-use Rattle.std.specs.Prelude as rust
 use Rattle.sheet.specs.Lines.{span_of}
-use Rattle.spec.specs.Basics.{Text}
-use Rattle.intake.specs.Bring.{Within, kids_in, KidsIn, KidsOver, KidsBrought, text_from, TextBrought, TextOver, TextIn, Settled, Rows, RowPut, RowIn, RowOver}
+use Rattle.intake.specs.Bring.{Within, kids_in, KidsIn, KidsOver, text_from, TextBrought, TextOver, Settled, Rows, RowPut, RowIn, RowOver}
 use Rattle.intake.specs.declared.bring.Front.{Front}
 use Rattle.layout.proofs.RowLaws.{cap_le, rows_same, rows_more, between_same}
 use Rattle.layout.proofs.WriteLaws.{Small, all_is}
@@ -169,7 +168,7 @@ module _ {t u : List ℕ} {i kids texts : ℕ} (r : Rows t i kids texts) (p : Ke
       }
 
 -- ---- one row more
-node_new : (s t u : List ℕ) (i : ℕ) (n : row.Node) (first text last : ℕ) → RowPut t u i n.kind n.from n.to n.flag text last
+node_new : (s t u : List ℕ) (i : ℕ) (n : row.Node) (first text last : ℕ) → RowPut t u i (number_of_syntax n.kind) n.from n.to n.flag text last
     → word u (nodes_at + node_row * i) ≡ first → first ≤ last → last ≤ kid_limit
     → rows_from (kid_in u) first last ≡ kids_in (span_of s n.kids)
     → text_in u text ≡ text_from (span_of s n.text) → node_in u i ≡ node_of s n
@@ -193,7 +192,7 @@ module _ (s : List ℕ) (n : row.Node) (i : ℕ) (f : Front) (t t₁ t₂ u : Li
     (r : Rows t i f.kids f.texts)
     (k : KidsIn (span_of s n.kids) t t₁ f.kids last)
     (x : TextBrought (span_of s n.text) t₁ t₂ f.texts texts)
-    (words : RowPut t₂ u i n.kind n.from n.to n.flag f.texts last) where
+    (words : RowPut t₂ u i (number_of_syntax n.kind) n.from n.to n.flag f.texts last) where
   put : Within t₂ u (nodes_at + node_row * i + 4) (nodes_at + node_row * i + 28)
   put = words.wrote
 
@@ -266,17 +265,3 @@ module _ (s : List ℕ) (n : row.Node) (f : Front) (t t₁ : List ℕ) where
       → TextOver (span_of s n.text) t₁ t₂ f.texts → RowOver s n t t₂ f
   unfolding text_from
   text_over last k t₂ x = record { over = inr x.over; wrote = rw x.wrote (within_wide nodes_at store_bytes k.wrote (omega arith) (omega (arith, k.room))) }
-
--- ---- what an answer says, once it is known which it is
-module _ (v : Text) (t u : List ℕ) (first : ℕ) (r : rust.Option ℕ) where
-  pub kids_are : {last : ℕ} → KidsBrought v t u first r → r ≡ rust.Some last → KidsIn v t u first last
-  kids_are h e = subst (KidsBrought v t u first) e h
-
-  pub kids_not : KidsBrought v t u first r → r ≡ rust.None → KidsOver v t u first
-  kids_not h e = subst (KidsBrought v t u first) e h
-
-  pub text_are : {last : ℕ} → TextIn v t u first r → r ≡ rust.Some last → TextBrought v t u first last
-  text_are h e = subst (TextIn v t u first) e h
-
-  pub text_not : TextIn v t u first r → r ≡ rust.None → TextOver v t u first
-  text_not h e = subst (TextIn v t u first) e h

@@ -1,12 +1,12 @@
 -- A text: its length, and its bytes after that. Assumes nothing.
 use mathlib.Core.Path.{◌≡◌, refl, ap, ◌∙◌}
 use mathlib.Core.List.{List}
-use Prim.Native.Nat.{ℕ, ◌+◌, ◌-◌, ◌/◌, ◌≤◌, ◌<◌}
+use Prim.Native.Nat.{ℕ, ◌+◌, ◌/◌, ◌≤◌, ◌<◌}
 use native.Mathlib.Omega.{arith}
 use lib.ListN.{length}
 use Rattle.words.specs.Runs.{run, splice}
 use Rattle.words.specs.Words.{word, set_word}
-use Rattle.words.proofs.RunLaws.{length_run, run_splice_same}
+use Rattle.words.proofs.RunLaws.{run_splice_same}
 use Rattle.words.proofs.WordLaws.{word_set_word_same}
 use Rattle.sheet.specs.Texts.{decoded}
 use Rattle.sheet.proofs.TextLaws.{length_decoded}

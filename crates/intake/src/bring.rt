@@ -40,16 +40,18 @@ fn bring_kids(kids: &[u8], first: u32, store: &mut [u8]) -> Option<u32>
     ensures { KidsBrought kids.now store.old store.new first result }
 {
     let mut left = kids;
-    let mut used = first;
-    while let Some((word, rest)) = kid_word(left) {
-        if used == KID_LIMIT {
-            return None;
-        }
+    for used in first..KID_LIMIT {
+        let Some((word, rest)) = kid_word(left) else {
+            return Some(used);
+        };
         put32(store, KIDS + 4 * (used as usize), word);
         left = rest;
-        used += 1;
     }
-    Some(used)
+    // No place is left: right only where no kid is left either.
+    match kid_word(left) {
+        Some(_) => None,
+        None => Some(KID_LIMIT),
+    }
 }
 
 // A text: its length, and its bytes after that; gives the place after them, or none where there is no room.
@@ -91,7 +93,7 @@ fn bring_row(sheet: &[u8], i: u32, node: Node, front: Front, store: &mut [u8]) -
     put_row(
         store,
         i,
-        node.kind,
+        node.kind.number(),
         node.from,
         node.to,
         node.flag,
@@ -123,10 +125,7 @@ fn bring_all(sheet: &[u8], nodes: u32, first: Front, store: &mut [u8]) -> Option
 {
     let mut front = first;
     for i in 0..nodes {
-        match bring_node(sheet, nodes, i, front, store) {
-            Some(next) => front = next,
-            None => return None,
-        }
+        front = bring_node(sheet, nodes, i, front, store)?;
     }
     Some(front.texts)
 }

@@ -43,6 +43,7 @@ fn node_word(store: &[u8], n: NodeId, place: usize) -> u32
     0
 }
 
+// A number and no `SyntaxKind`: a store's word may be any, and a pointer's kind is such a number too.
 pub fn node_kind(store: &[u8], n: NodeId) -> u32
     requires { Long store.now }
     ensures { result ≡ kind (nodes_of store.now) n.0 }

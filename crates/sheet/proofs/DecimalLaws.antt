@@ -11,20 +11,12 @@ use native.Mathlib.Numerals.{add-one}
 use lib.ListN.{length, get_or, drop, drop_of_length-le}
 use lib.Seq.{drop-cons}
 use lib.Dec.{eqb}
-use borrow.Author.Tests.{le-leb, lt-leb, eq-eqb, ne_eqb, eqb-true}
+use borrow.Author.Tests.{le-leb, eq-eqb, ne_eqb, eqb-true}
 use Rattle.spec.specs.Basics.{Text}
 use Rattle.spec.specs.Sheet.{is_digit, all_digits, value_from, decimal}
 use Rattle.sheet.specs.Decimals.{capped, capped_from}
 
 -- ---- a digit
-pub digit_low : (c : ℕ) → c < 48 → is_digit c ≡ false
-unfolding is_digit
-digit_low c h = rw (lt-leb 48 c)
-
-pub digit_high : (c : ℕ) → 57 < c → is_digit c ≡ false
-unfolding is_digit
-digit_high c h = let m : 48 ≤ c = omega arith in rw (le-leb 48 c, lt-leb c 57)
-
 pub digit_is : (c : ℕ) → 48 ≤ c → c ≤ 57 → is_digit c ≡ true
 unfolding is_digit
 digit_is c h k = rw (le-leb 48 c, le-leb c 57)

@@ -3,30 +3,36 @@ use Rattle.std.specs.Prelude as rust
 use Rattle.std.specs.Prelude.{position}
 use Rattle.std.specs.List.{position_or_len}
 use Rattle.std.specs.Borrow.{Bor}
+use Rattle.std.specs.Bool.{MatchBool}
+use Rattle.std.specs.List.{AllWithin, HoldsAt}
+use Rattle.std.specs.Simd.{first_chunks}
+use Rattle.std.specs.Int.{from_be_bytes}
 use Rattle.std.proofs.lemmas.List.Sums.{position_or_len_is, fails_before_first, passes_at_first}
-use Rattle.std.proofs.lemmas.List.{get_or-take}
+use Rattle.std.proofs.lemmas.List.{get_or-take, get_or-map, take_more, take_all}
 use mathlib.Core.Path.{◌≡◌, refl, sym, ap, ◌∙◌}
 use mathlib.Core.Bool.{Bool, true, false, ◌&&◌, not}
-use mathlib.Core.List.{List, [], ◌∷◌, ◌++◌, append-nil, append_assoc}
+use mathlib.Core.List.{List, [], ◌∷◌, append-nil}
+use mathlib.Core.List.{map as mapped}
+use mir.Syntax.{w64}
 use mathlib.Core.Option.{Option, none, some, map}
 use Prim.Native.Nat.{ℕ, zero, suc, ◌+◌, ◌-◌, ◌*◌, ◌/◌, ◌%◌, ◌≤◌, ◌<◌}
 use native.Mathlib.Omega.{arith}
 use native.Mathlib.Decide.{dec_lt}
-use lib.ListN.{length, get_or, take, drop, set, length-set, length-drop, length-append}
-use lib.Seq.{length-take-le}
+use lib.ListN.{length, get_or, take, drop, set, length-drop, drop_of_length-le}
+use lib.Seq.{length-take-le, drop-cons}
 use lib.Dec.{eqb, leb, ltb}
 use borrow.Author.Tests.{le-leb, leb-true, ltb-true, ltb-false, le-ltb, eq-eqb, ne_eqb, eqb-true, eqb-false}
 use Rattle.words.specs.Runs.{run, splice}
-use Rattle.words.proofs.RunLaws.{splice_after}
+use Rattle.words.proofs.RunLaws.{splice_is, splice_after}
 use Rattle.spec.specs.Basics.{Text, bytes, maybe}
 use Rattle.spec.specs.Kinds.{TextRule, no_text, any_text, digits, float, named}
 use Rattle.spec.specs.Sheet.{is_digit, all_digits, hex_digit, hex, bits_from, is_float, is_empty, text_fits, malformed, got, bad, after, up_to_end, wrong_text}
 use Rattle.sheet.specs.Keyed.{field_of}
 use Rattle.sheet.specs.Lines.{rest_of}
 use Rattle.sheet.specs.Verdicts.{Formed}
-use Rattle.sheet.specs.Texts.{is_there, is_hex, digit_of, byte_at, decoded, four_more}
+use Rattle.sheet.specs.Texts.{is_there, is_hex, digit_of, decoded}
 use Rattle.sheet.proofs.DecimalLaws.{digit_is}
-use Rattle.sheet.proofs.LineLaws.{line_at, line_other, rest_is, field_other, field_malformed, field_right, slice_from, first_some, first_none, end_found, end_missing}
+use Rattle.sheet.proofs.LineLaws.{line_at, line_other, rest_is, field_other, field_malformed, field_right, first_some, first_none, end_found, end_missing}
 
 -- ---- a digit
 hex_number : (c : ℕ) → 48 ≤ c → c ≤ 57 → hex_digit c ≡ some (c - 48)
@@ -305,24 +311,28 @@ module _ (s : List ℕ) (at : ℕ) (h : at ≤ length s) where
           pub text_formed : Formed hex decoded any s (record { start = at + 5; end = at + 5 + n })
           text_formed = record { ordered = omega arith; within = text_long; formed = rw spanned is_text; fits = refl }
 
--- ---- two digits at the front
-pub decoded_front : (l : Text) → 2 ≤ length l → decoded l ≡ (16 * digit_of (get_or l 0 0) + digit_of (get_or l 1 0)) ∷ decoded (take (length l - 2) (drop 2 l))
-unfolding decoded
-decoded_front [] h = absurd (omega (arith, h))
-decoded_front (a ∷ []) h = absurd (omega (arith, h))
-decoded_front (a ∷ b ∷ l) h = rw (slice_from (a ∷ b ∷ l) 2 h)
-
-pub decoded_short : (v : Text) → length v < 2 → decoded v ≡ []
-unfolding decoded
-decoded_short [] h = refl
-decoded_short (a ∷ []) h = refl
-decoded_short (a ∷ b ∷ v) h = absurd (omega (arith, h))
-
 pub length_decoded : (v : Text) → length (decoded v) ≡ length v / 2
 unfolding decoded
 length_decoded [] = refl
 length_decoded (a ∷ []) = refl
 length_decoded (a ∷ b ∷ v) = let e = length_decoded v in omega arith
+
+-- ---- two digits each
+abbrev pub byte_of : List ℕ → ℕ
+byte_of p = 16 * digit_of (get_or p 0 0) + digit_of (get_or p 1 0)
+
+length-first_chunks : (n : ℕ) (v : Text) → length (first_chunks 2 n v) ≡ n
+length-first_chunks zero v = refl
+length-first_chunks (suc n) v = ap suc (length-first_chunks n (drop 2 v))
+
+decoded_pairs : (v : Text) (n : ℕ) → n ≡ length v / 2 → decoded v ≡ mapped byte_of (first_chunks 2 n v)
+unfolding decoded
+decoded_pairs [] zero e = refl
+decoded_pairs [] (suc n) e = absurd (omega (arith, e))
+decoded_pairs (a ∷ []) zero e = refl
+decoded_pairs (a ∷ []) (suc n) e = absurd (omega (arith, e))
+decoded_pairs (a ∷ b ∷ v) zero e = absurd (omega (arith, e))
+decoded_pairs (a ∷ b ∷ v) (suc n) e = ap (λ (t : Text). (16 * digit_of a + digit_of b) ∷ t) (decoded_pairs v n (omega (arith, e)))
 
 -- ---- the rules
 pub empty_is : (v : Text) → ltb (length v) 2 ≡ is_empty (decoded v)
@@ -331,20 +341,29 @@ empty_is [] = refl
 empty_is (a ∷ []) = refl
 empty_is (a ∷ b ∷ v) = rw (le-ltb (length (a ∷ b ∷ v)) 2 (omega arith))
 
--- the loop over the bytes of a number
-module _ (text left : Text) (e : all_digits (decoded text) ≡ all_digits (decoded left)) where
-  module _ (h : 2 ≤ length left) (b : ℕ) (f : b ≡ 16 * digit_of (get_or left 0 0) + digit_of (get_or left 1 0)) where
-    pub numbers_other : is_digit b ≡ false → false ≡ all_digits (decoded text)
-    unfolding all_digits
-    numbers_other q = let g : is_digit (16 * digit_of (get_or left 0 0) + digit_of (get_or left 1 0)) ≡ false = rw f at q in sym (e ∙ rw (decoded_front left h, g))
+-- all bytes of a text are digits, by what `all` says of its pairs
+numbers_all : (ps : List (List ℕ)) → ((k : ℕ) (d : List ℕ) → 0 ≤ k → k < length ps → is_digit (byte_of (get_or ps k d)) ≡ true)
+    → true ≡ all_digits (mapped byte_of ps)
+unfolding all_digits
+numbers_all [] h = refl
+numbers_all (p ∷ ps) h = rw (h 0 [] (omega arith) (omega arith)) (numbers_all ps (λ k d l m. h (suc k) d (omega arith) (omega arith)))
 
-    pub numbers_more : is_digit b ≡ true → all_digits (decoded text) ≡ all_digits (decoded (take (length left - 2) (drop 2 left)))
-    unfolding all_digits
-    numbers_more q = let g : is_digit (16 * digit_of (get_or left 0 0) + digit_of (get_or left 1 0)) ≡ true = rw f at q in e ∙ rw (decoded_front left h, g)
+numbers_other : (ps : List (List ℕ)) (k : ℕ) → k < length ps → is_digit (byte_of (get_or ps k [])) ≡ false → false ≡ all_digits (mapped byte_of ps)
+unfolding all_digits
+numbers_other [] k l h = absurd (omega (arith, l))
+numbers_other (p ∷ ps) zero l h = rw h
+numbers_other (p ∷ ps) (suc k) l h = go (is_digit (byte_of p)) (numbers_other ps k (omega arith) h)
+  where
+    go : (t : Bool) → false ≡ all_digits (mapped byte_of ps) → false ≡ (t && all_digits (mapped byte_of ps))
+    go true e = e
+    go false e = refl
 
-  pub numbers_end : length left < 2 → true ≡ all_digits (decoded text)
-  unfolding all_digits
-  numbers_end h = sym (e ∙ rw (decoded_short left h))
+pub numbers_told : (v : Text) (n : ℕ) → n ≡ length v / 2 → (r : Bool)
+    → MatchBool r (AllWithin (λ p. is_digit (byte_of p) ≡ true) (first_chunks 2 n v) 0 (length (first_chunks 2 n v)))
+    ((k : ℕ) × (k < length (first_chunks 2 n v)) × HoldsAt (λ p. is_digit (byte_of p) ≡ false) (first_chunks 2 n v) k)
+    → r ≡ all_digits (decoded v)
+numbers_told v n e true h = rw (decoded_pairs v n e) (numbers_all (first_chunks 2 n v) h)
+numbers_told v n e false (k, l, h) = rw (decoded_pairs v n e) (numbers_other (first_chunks 2 n v) k l (h []))
 
 module _ (t : Text) where
   pub number_none : true ≡ is_empty t → false ≡ text_fits digits 0 t
@@ -360,29 +379,36 @@ pub float_long : (t : Text) → (length t / 2 ≡ 8 → ⊥) → false ≡ is_fl
 unfolding is_float
 float_long t n = rw (ne_eqb (length (decoded t)) 8 (λ e. n (sym (length_decoded t) ∙ e)))
 
-bits_four : (t : Text) (v : ℕ) → 8 ≤ length t → bits_from v (decoded t) ≡ bits_from (four_more t v) (decoded (drop 8 t))
-unfolding decoded bits_from four_more byte_at
-bits_four [] v h = absurd (omega (arith, h))
-bits_four (a ∷ []) v h = absurd (omega (arith, h))
-bits_four (a ∷ b ∷ []) v h = absurd (omega (arith, h))
-bits_four (a ∷ b ∷ c ∷ []) v h = absurd (omega (arith, h))
-bits_four (a ∷ b ∷ c ∷ d ∷ []) v h = absurd (omega (arith, h))
-bits_four (a ∷ b ∷ c ∷ d ∷ e ∷ []) v h = absurd (omega (arith, h))
-bits_four (a ∷ b ∷ c ∷ d ∷ e ∷ f ∷ []) v h = absurd (omega (arith, h))
-bits_four (a ∷ b ∷ c ∷ d ∷ e ∷ f ∷ g ∷ []) v h = absurd (omega (arith, h))
-bits_four (a ∷ b ∷ c ∷ d ∷ e ∷ f ∷ g ∷ i ∷ l) v h = refl
+bits_more : (xs : List ℕ) (i v : ℕ) → i < length xs → bits_from v (drop i xs) ≡ bits_from (256 * v + get_or xs i 0) (drop (suc i) xs)
+unfolding bits_from
+bits_more xs i v h = rw (drop-cons xs i 0 h)
 
-pub float_bits_lem : (t : Text) → length t / 2 ≡ 8 → (high bits : ℕ) → high ≡ four_more t 0 → bits ≡ four_more (take (length t - 8) (drop 8 t)) high
-    → leb bits 9218868437227405312 ≡ is_float (decoded t)
-unfolding is_float bits_from
-float_bits_lem t e high bits f g =
-    let whole = bits_four t 0 (omega arith) ∙ bits_four (drop 8 t) (four_more t 0) (omega (arith, length-drop 8 t)) in
-    let none_left = decoded_short (drop 8 (drop 8 t)) (omega (arith, length-drop 8 (drop 8 t), length-drop 8 t)) in
-    let z : bits ≡ bits_from 0 (decoded t) = rw (slice_from t 8 (omega arith), f) at g ∙ sym (whole ∙ rw none_left (done (four_more (drop 8 t) (four_more t 0)))) in
-    rw (eq-eqb (length (decoded t)) 8 (length_decoded t ∙ e), ← z)
-  where
-    done : (v : ℕ) → bits_from v [] ≡ v
-    done v = refl
+bits_end : (xs : List ℕ) (i v : ℕ) → length xs ≤ i → bits_from v (drop i xs) ≡ v
+unfolding bits_from
+bits_end xs i v h = rw (drop_of_length-le xs {i = i} h)
+
+module _ (text : Text) (e : length text / 2 ≡ 8) where
+  eight : length (decoded text) ≡ 8
+  eight = length_decoded text ∙ e
+
+  bits_eight : (xs : List ℕ) → length xs ≡ 8 → bits_from 0 xs ≡ from_be_bytes w64 xs
+  bits_eight xs l =
+      bits_more xs 0 0 (omega arith) ∙ bits_more xs 1 _ (omega arith) ∙ bits_more xs 2 _ (omega arith) ∙ bits_more xs 3 _ (omega arith)
+      ∙ bits_more xs 4 _ (omega arith) ∙ bits_more xs 5 _ (omega arith) ∙ bits_more xs 6 _ (omega arith) ∙ bits_more xs 7 _ (omega arith)
+      ∙ bits_end xs 8 _ (omega arith) ∙ omega arith
+
+  -- eight bytes are written over eight, and nothing is left of those
+  written_over : (d bytes : List ℕ) → length d ≡ 8 → bytes ≡ splice d 0 (decoded text) → bytes ≡ decoded text
+  written_over d bytes l f =
+      let parts = splice_is d 0 (decoded text) 8 (sym eight) (omega arith) in
+      let rest = drop_of_length-le d {i = 8} (omega arith) in
+      f ∙ parts ∙ rw rest (append-nil (decoded text))
+
+  pub float_told : (d bytes : List ℕ) (bits : ℕ) → length d ≡ 8 → bytes ≡ splice d 0 (decoded text) → bits ≡ from_be_bytes w64 bytes
+      → leb bits 9218868437227405312 ≡ is_float (decoded text)
+  unfolding is_float
+  float_told d bytes bits l f g =
+      rw (eq-eqb (length (decoded text)) 8 eight, g, written_over d bytes l f, bits_eight (decoded text) eight) refl
 
 -- ---- the rule of a kind
 module _ (t : Text) (flag : ℕ) where
@@ -414,35 +440,21 @@ module _ (t : Text) (flag : ℕ) where
   unfolding text_fits
   fits_no_name x e f r q = rw (e, ne_eqb flag 1 f) q
 
--- ---- the loop that writes the bytes: some are written, and those of what is left of the text are to come
-pub record Written (d₀ : List ℕ) (at : ℕ) (text : Text) (d : List ℕ) (next : ℕ) (left : Text) : Type 0 where
-  pub done : Text
-  pub long : length d ≡ length d₀
-  pub here : next ≡ at + length done
-  pub same : d ≡ splice d₀ at done
-  pub rest : decoded text ≡ done ++ decoded left
-
-pub written_none : (d : List ℕ) (at : ℕ) (text : Text) → Written d at text d at text
+-- ---- the loop that writes the bytes: the first i of them are written
+pub written_none : (d : List ℕ) (at : ℕ) (text : Text) → d ≡ splice d at (take 0 (decoded text))
 unfolding splice
-written_none d at text = record { done = []; long = refl; here = omega arith; same = refl; rest = refl }
+written_none d at text = refl
 
-module _ {d₀ : List ℕ} {at : ℕ} {text : Text} {d : List ℕ} {next : ℕ} {left : Text} (w : Written d₀ at text d next left) where
-  module _ (h : 2 ≤ length left) where
-    pub written_room : at + length text / 2 ≤ length d₀ → next < length d
-    written_room k =
-        let e = ap length w.rest ∙ length-append w.done (decoded left) in
-        let f = ap length (decoded_front left h) in
-        omega (arith, e, f, w.here, w.long, length_decoded text)
+module _ (text : Text) (n : ℕ) (e : n ≡ length text / 2) where
+  pub written_more : (d₀ d : List ℕ) (at i : ℕ) → d ≡ splice d₀ at (take i (decoded text)) → i < n → (b : ℕ) → b ≡ byte_of (get_or (first_chunks 2 n text) i [])
+      → set d (at + i) b ≡ splice d₀ at (take (i + 1) (decoded text))
+  written_more d₀ d at i w h b f =
+      let long : i < length (decoded text) = omega (arith, length_decoded text) in
+      let some_written = length-take-le i (decoded text) (omega arith) in
+      let one = get_or-map byte_of (first_chunks 2 n text) i [] 0 (rw (length-first_chunks n text) h) in
+      let byte : get_or (decoded text) i 0 ≡ b = rw (decoded_pairs text n e) one ∙ sym f in
+      let after = splice_after d₀ at (take i (decoded text)) b in
+      rw (w, take_more (decoded text) i 0 long, byte) (rw some_written at after)
 
-    pub written_more : (b : ℕ) → b ≡ 16 * digit_of (get_or left 0 0) + digit_of (get_or left 1 0)
-        → Written d₀ at text (set d next b) (next + 1) (take (length left - 2) (drop 2 left))
-    written_more b e = record {
-      done = w.done ++ (b ∷ []);
-      long = length-set d next b ∙ w.long;
-      here = omega (arith, w.here, length-append w.done (b ∷ []));
-      same = rw (w.same, w.here) (splice_after d₀ at w.done b);
-      rest = w.rest ∙ rw (decoded_front left h, ← e) (sym (append_assoc w.done (b ∷ []) (decoded (take (length left - 2) (drop 2 left)))));
-    }
-
-  pub written_all : length left < 2 → d ≡ splice d₀ at (decoded text)
-  written_all h = w.same ∙ ap (splice d₀ at) (sym (w.rest ∙ rw (decoded_short left h) (append-nil w.done)))
+  pub written_all : (d₀ d : List ℕ) (at i : ℕ) → d ≡ splice d₀ at (take i (decoded text)) → n ≤ i → d ≡ splice d₀ at (decoded text)
+  written_all d₀ d at i w h = w ∙ ap (splice d₀ at) (take_all i (decoded text) (omega (arith, length_decoded text)))

@@ -55,32 +55,38 @@ module _ {A : Type 0} (key : Text) (parse : Text → Option A) (get : Text → A
               record { ordered = o.0; within = o.1; formed = f ∙ ap some b; fits = rw b at (sym t) },
             )
 
--- ---- a field by one that takes every value
+-- ---- a field by one that takes more values
 abbrev tested : {A : Type 0} → Fault → (A → Bool) → ℕ → Got A → Got A
 tested why test at (got a place) = if test a then got a place else bad why at
 tested why test at (bad w place) = bad w place
 
-pub field_tested : {A : Type 0} (key : Text) (parse : Text → Option A) (why : Fault) (test : A → Bool) (s : List ℕ) (at : ℕ)
-    → field_of key parse why test s at ≡ tested why test at (field_of key parse why (λ a. true) s at)
-unfolding field_of next
-field_tested {A} key parse why test s at = go (line_of key s at)
-  where
-    parsed : (o : Option A) (place : ℕ) → maybe o (bad malformed at) (λ a. if test a then got a place else bad why at)
-        ≡ tested why test at (maybe o (bad malformed at) (λ a. got a place))
-    parsed none place = refl
-    parsed (some a) place = refl
+module _ {A : Type 0} (key : Text) (parse : Text → Option A) (why : Fault) (test wide : A → Bool) (within : (a : A) → test a ≡ true → wide a ≡ true)
+    (s : List ℕ) (at : ℕ) where
+  field_tested : field_of key parse why test s at ≡ tested why test at (field_of key parse why wide s at)
+  unfolding field_of next
+  field_tested = go (line_of key s at)
+    where
+      one : (a : A) (place : ℕ) (x y : Bool) → test a ≡ x → wide a ≡ y
+          → ◌≡◌ {A = Got A} (if test a then got a place else bad why at) (tested why test at (if wide a then got a place else bad why at))
+      one a place x true e f = rw f
+      one a place true false e f = let y : false ≡ true = sym f ∙ within a e in let z : ◌≡◌ {A = ℕ} 0 1 = cc in absurd (omega arith)
+      one a place false false e f = rw (e, f)
 
-    go : (g : Got Text) → next (λ v _ place. maybe (parse v) (bad malformed at) (λ a. if test a then got a place else bad why at)) s g
-        ≡ tested why test at (next (λ v _ place. maybe (parse v) (bad malformed at) (λ a. if true then got a place else bad why at)) s g)
-    go (got v place) = parsed (parse v) place
-    go (bad w place) = refl
+      parsed : (o : Option A) (place : ℕ) → ◌≡◌ {A = Got A} (maybe o (bad malformed at) (λ a. if test a then got a place else bad why at))
+          (tested why test at (maybe o (bad malformed at) (λ a. if wide a then got a place else bad why at)))
+      parsed none place = refl
+      parsed (some a) place = one a place (test a) (wide a) refl refl
 
-module _ {A : Type 0} (key : Text) (parse : Text → Option A) (why : Fault) (test : A → Bool) (s : List ℕ) (at : ℕ) where
-  pub tested_bad : (w : Fault) (place : ℕ) → bad w place ≡ field_of key parse why (λ a. true) s at → bad w place ≡ field_of key parse why test s at
-  tested_bad w place e = sym (field_tested key parse why test s at ∙ ap (tested why test at) (sym e))
+      go : (g : Got Text) → next (λ v _ place. maybe (parse v) (bad malformed at) (λ a. if test a then got a place else bad why at)) s g
+          ≡ tested why test at (next (λ v _ place. maybe (parse v) (bad malformed at) (λ a. if wide a then got a place else bad why at)) s g)
+      go (got v place) = parsed (parse v) place
+      go (bad w place) = refl
 
-  pub tested_right : (a : A) (place : ℕ) → got a place ≡ field_of key parse why (λ a. true) s at → true ≡ test a → got a place ≡ field_of key parse why test s at
-  tested_right a place e f = sym (field_tested key parse why test s at ∙ ap (tested why test at) (sym e) ∙ rw (← f))
+  pub tested_bad : (w : Fault) (place : ℕ) → bad w place ≡ field_of key parse why wide s at → bad w place ≡ field_of key parse why test s at
+  tested_bad w place e = sym (field_tested ∙ ap (tested why test at) (sym e))
 
-  pub tested_wrong : (a : A) (place : ℕ) → got a place ≡ field_of key parse why (λ a. true) s at → false ≡ test a → bad why at ≡ field_of key parse why test s at
-  tested_wrong a place e f = sym (field_tested key parse why test s at ∙ ap (tested why test at) (sym e) ∙ rw (← f))
+  pub tested_right : (a : A) (place : ℕ) → got a place ≡ field_of key parse why wide s at → true ≡ test a → got a place ≡ field_of key parse why test s at
+  tested_right a place e f = sym (field_tested ∙ ap (tested why test at) (sym e) ∙ rw (← f))
+
+  pub tested_wrong : (a : A) (place : ℕ) → got a place ≡ field_of key parse why wide s at → false ≡ test a → bad why at ≡ field_of key parse why test s at
+  tested_wrong a place e f = sym (field_tested ∙ ap (tested why test at) (sym e) ∙ rw (← f))

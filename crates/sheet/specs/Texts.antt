@@ -1,7 +1,7 @@
 -- Hex as the code reads it: each two digits are a byte, and a digit that is none counts as 0. Where a text is hex, this
 -- gives the bytes that `hex` does (proofs/TextLaws.antt, `hex_decoded`, `text_agree`).
 use Rattle.std.proofs.Math.Option as math
-use Rattle.std.specs.Prelude.{Option, Some, None, Bool, true, false, List, [], ◌∷◌, ℕ, ◌+◌, ◌*◌, get_or}
+use Rattle.std.specs.Prelude.{Option, Some, None, Bool, true, false, List, [], ◌∷◌, ℕ, ◌+◌, ◌*◌}
 use Rattle.spec.specs.Basics.{Text, maybe}
 use Rattle.spec.specs.Sheet.{Got, got, bad, malformed, hex_digit, hex}
 use Rattle.sheet.specs.Lines.{span_of}
@@ -17,17 +17,10 @@ is_hex c = is_there (hex_digit c)
 unfoldable pub digit_of : ℕ → ℕ
 digit_of c = maybe (hex_digit c) 0 (λ x. x)
 
-unfoldable pub byte_at : List ℕ → ℕ → ℕ
-byte_at s at = 16 * digit_of (get_or s at 0) + digit_of (get_or s (at + 1) 0)
-
 unfoldable pub decoded : Text → Text
 decoded [] = []
 decoded (a ∷ []) = []
 decoded (a ∷ b ∷ l) = (16 * digit_of a + digit_of b) ∷ decoded l
-
--- the first four bytes of a text read on from a value, highest first
-unfoldable pub four_more : Text → ℕ → ℕ
-four_more t v = 256 * (256 * (256 * (256 * v + byte_at t 0) + byte_at t 2) + byte_at t 4) + byte_at t 6
 
 -- a text whose kind is not asked for
 abbrev pub got_text : List ℕ → ℕ → Option Span → Got Text

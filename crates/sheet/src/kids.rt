@@ -1,6 +1,6 @@
 // A list of kids: node numbers with commas between them, `-` for an absent one. The form of the whole
 // list is judged before any number (2 before 3).
-ghost use Rattle.std.specs.Prelude.{◌≡◌, ◌==◌, ◌≤◌, min, length, position};
+ghost use Rattle.std.specs.Prelude.{◌≡◌, ◌==◌, ◌≤◌, length, position};
 ghost use Rattle.std.specs.List.{position_or_len};
 ghost use Rattle.std.proofs.Math.Option.{map};
 ghost use Rattle.spec.specs.Sheet.{kid, kid_list, all_below, wrong_kid, field};
@@ -25,12 +25,6 @@ fn part_end(kids: &[u8]) -> usize
 }
 
 // No kid has a number of more than 32 bits: such a one is told as the largest.
-fn shortened(n: u64) -> u32
-    ensures { result ≡ min n 4294967295 }
-{
-    u32::try_from(n).unwrap_or(u32::MAX)
-}
-
 fn kid_in(part: &[u8]) -> Result<Option<u32>, Malformed>
     ensures { got_kid result ≡ map short_kid (kid part.now) }
 {
@@ -38,7 +32,7 @@ fn kid_in(part: &[u8]) -> Result<Option<u32>, Malformed>
         return Ok(None);
     }
     let n = decimal(part).ok_or(Malformed)?;
-    Ok(Some(shortened(n)))
+    Ok(Some(u32::try_from(n).unwrap_or(u32::MAX)))
 }
 
 // The list after a first part, from that part's end on: what its comma separates is not nothing.
@@ -82,6 +76,7 @@ fn judge_kids(kids: &[u8], nodes: u32) -> Result<bool, Malformed>
     ensures { verdict_of result ≡ map (all_below nodes) (kid_list kids.now) }
 {
     let mut low = true;
+    // `while let`, since the bytes are no slice of kids: where a kid ends is known once it is read.
     let mut left = kids;
     while let Some((kid, rest)) = next_kid(left)? {
         if !is_below(kid, nodes) {

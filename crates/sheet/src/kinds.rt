@@ -19,7 +19,7 @@ pub enum TextRule {
 
 // The highest flag of a kind.
 #[tactic(auto, unfolding(spec::specs::Kinds::kind_of, spec::specs::Kinds::kinds, module::specs::SyntaxKinds::number_of_syntax))]
-fn flags_of(kind: SyntaxKind) -> u32
+pub(crate) fn flags_of(kind: SyntaxKind) -> u32
     ensures { result ≡ (kind_of (number_of_syntax kind)).flags }
 {
     match kind {
@@ -31,7 +31,7 @@ fn flags_of(kind: SyntaxKind) -> u32
 }
 
 #[tactic(auto, unfolding(spec::specs::Kinds::kind_of, spec::specs::Kinds::kinds, module::specs::SyntaxKinds::number_of_syntax))]
-fn text_rule_of(kind: SyntaxKind) -> TextRule
+pub(crate) fn text_rule_of(kind: SyntaxKind) -> TextRule
     ensures { rule_of result ≡ (kind_of (number_of_syntax kind)).text }
 {
     match kind {
@@ -43,7 +43,8 @@ fn text_rule_of(kind: SyntaxKind) -> TextRule
     }
 }
 
-// The same by the number of a kind.
+// The same by the number of a kind. It promises something for every number, and to take a `SyntaxKind` would ask more of
+// callers.
 pub fn flags(kind: u32) -> u32
     ensures { result ≡ (kind_of kind).flags }
 {
@@ -53,6 +54,7 @@ pub fn flags(kind: u32) -> u32
     }
 }
 
+// By number for the same reason: a number that is no kind has its rule too.
 pub fn text_rule(kind: u32) -> TextRule
     ensures { rule_of result ≡ (kind_of kind).text }
 {

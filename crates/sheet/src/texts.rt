@@ -5,13 +5,15 @@ ghost use Rattle.std.specs.Prelude.{◌≡◌, ◌+◌, ◌*◌, ◌/◌, ◌≤
 ghost use Rattle.words.specs.Runs.{splice};
 ghost use Rattle.spec.specs.Kinds.{kind_of, digits};
 ghost use Rattle.spec.specs.Sheet.{hex, all_digits, is_empty, is_float, text_fits, wrong_text, field};
+ghost use Rattle.module.specs.SyntaxKinds.{number_of_syntax};
 ghost use Rattle.sheet.specs.Rules.{rule_of};
-ghost use Rattle.sheet.specs.Texts.{is_hex, digit_of, decoded, four_more, got_text, TextInside};
+ghost use Rattle.sheet.specs.Texts.{is_hex, digit_of, decoded, got_text, TextInside};
 ghost use Rattle.sheet.specs.Verdicts.{got_span, FormedIn};
 
 use crate::faults::{Fault, Refused};
-use crate::kinds::{TextRule, text_rule};
+use crate::kinds::{TextRule, text_rule_of};
 use crate::position::{Position, Span};
+use module::SyntaxKind;
 
 fn is_hex(c: u8) -> bool
     ensures { result ≡ is_hex c }
@@ -54,14 +56,10 @@ fn is_empty(text: &[u8]) -> bool
 fn all_digits(text: &[u8]) -> bool
     ensures { result ≡ all_digits (decoded text.now) }
 {
-    let mut left = text;
-    while let [high, low, rest @ ..] = left {
-        if !hex_byte(*high, *low).is_ascii_digit() {
-            return false;
-        }
-        left = rest;
-    }
-    true
+    let (pairs, _) = text.as_chunks::<2>();
+    pairs
+        .iter()
+        .all(|[high, low]| hex_byte(*high, *low).is_ascii_digit())
 }
 
 // One byte or more, all of them digits.
@@ -71,17 +69,6 @@ fn is_number(text: &[u8]) -> bool
     !is_empty(text) && all_digits(text)
 }
 
-// Four bytes more, highest first.
-fn four_more(text: &[u8], value: u64) -> u64
-    requires { (8 ≤ length text.now) × (value < 4294967296) }
-    ensures { (result ≡ four_more text.now value) × (result < 4294967296 * value + 4294967296) }
-{
-    let a = 256 * value + u64::from(hex_byte(text[0], text[1]));
-    let b = 256 * a + u64::from(hex_byte(text[2], text[3]));
-    let c = 256 * b + u64::from(hex_byte(text[4], text[5]));
-    256 * c + u64::from(hex_byte(text[6], text[7]))
-}
-
 // Eight bytes, their number at most that of positive infinity.
 fn is_float(text: &[u8]) -> bool
     ensures { result ≡ is_float (decoded text.now) }
@@ -89,8 +76,9 @@ fn is_float(text: &[u8]) -> bool
     if text.len() / 2 != 8 {
         return false;
     }
-    let high = four_more(text, 0);
-    four_more(&text[8..], high) <= 0x7ff0_0000_0000_0000
+    let mut bytes = [0; 8];
+    decode_text(text, &mut bytes, 0);
+    u64::from_be_bytes(bytes) <= 0x7ff0_0000_0000_0000
 }
 
 // Whether a text fits its kind's rule.
@@ -117,12 +105,9 @@ pub fn decode_text(text: &[u8], d: &mut [u8], at: usize)
     requires { at + length text.now / 2 ≤ length d.old }
     ensures { d.new ≡ splice d.old at (decoded text.now) }
 {
-    let mut next = at;
-    let mut left = text;
-    while let [high, low, rest @ ..] = left {
-        d[next] = hex_byte(*high, *low);
-        next += 1;
-        left = rest;
+    let (pairs, _) = text.as_chunks::<2>();
+    for (i, [high, low]) in pairs.iter().enumerate() {
+        d[at + i] = hex_byte(*high, *low);
     }
 }
 
@@ -147,10 +132,10 @@ impl Position {
     }
 
     // The text here, of a node of a kind and with a flag.
-    pub fn text(self, s: &[u8], kind: u32, flag: u32) -> Result<Span, Refused>
+    pub(crate) fn text(self, s: &[u8], kind: SyntaxKind, flag: u32) -> Result<Span, Refused>
         requires { self.at ≤ length s.now }
-        ensures result_value { got_span decoded s.now result ≡ field "text=" hex wrong_text (text_fits (kind_of kind).text flag) s.now self.at }
-        ensures formed_in { FormedIn hex decoded (text_fits (kind_of kind).text flag) s.now result }
+        ensures result_value { got_span decoded s.now result ≡ field "text=" hex wrong_text (text_fits (kind_of (number_of_syntax kind)).text flag) s.now self.at }
+        ensures formed_in { FormedIn hex decoded (text_fits (kind_of (number_of_syntax kind)).text flag) s.now result }
     {
         let at = self.at;
         let malformed = Refused {
@@ -158,7 +143,7 @@ impl Position {
             at,
         };
         let text = self.text_line(s).ok_or(malformed)?;
-        if !fits(text.of(s), text_rule(kind), flag) {
+        if !fits(text.of(s), text_rule_of(kind), flag) {
             return Err(Refused {
                 why: Fault::WrongText,
                 at,

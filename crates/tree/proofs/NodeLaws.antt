@@ -1,12 +1,14 @@
 -- The nodes of an accepted sheet and their kids, read one after the other. Assumes nothing.
-use Rattle.std.specs.Prelude.{Option, Some, None, Result, Ok, Err, if◌then◌else◌}
+use Rattle.std.specs.Prelude.{Option, Some, None, Result, Ok, Err}
 use Rattle.std.specs.Borrow.{Bor}
+use Rattle.std.specs.List.{count_by}
+use Rattle.std.proofs.lemmas.List.Sums.{sum_by-cons}
 use mathlib.Core.Path.{◌≡◌, refl, sym, ap, ◌∙◌, subst}
-use mathlib.Core.Bool.{Bool, true, false}
+use mathlib.Core.Bool.{Bool, true, false, cond}
 use mathlib.Core.List.{List, [], ◌∷◌}
 use mathlib.Core.Option as math
 use mathlib.Mathlib.Data.Bool.Basic.{and_elim_left, and_elim_right}
-use Prim.Native.Nat.{ℕ, ◌+◌, ◌<◌, ◌≤◌}
+use Prim.Native.Nat.{ℕ, suc, ◌+◌, ◌<◌, ◌≤◌}
 use native.Mathlib.Numerals.{add-one}
 use native.Mathlib.Omega.{arith}
 use lib.ListN.{length, drop}
@@ -15,13 +17,9 @@ use lib.Dec.{eqb, ltb}
 use borrow.Author.Tests.{ltb-true, lt-ltb}
 use Rattle.spec.specs.Basics.{NodeId, maybe}
 use Rattle.spec.specs.Sheet as spec
-use Rattle.spec.specs.Sheet.{Node, Got, got, bad, ◌>>=◌, give, number, wrong_kind, kid_list, all_below, node}
+use Rattle.spec.specs.Sheet.{Node, Got, got, bad, kid, cut_before, cut_at_commas, all_kids, kid_list, all_below, node}
 use Rattle.spec.specs.Tree.{node_at, nobody}
-use Rattle.spec.proofs.reading.Lines.{read, number_within}
 use Rattle.spec.proofs.reading.Reading.{Reads, one_more_lem}
-use Rattle.module.specs.SyntaxKinds.{syntax_of_number}
-use Rattle.module.specs.declared.syntax_kind.SyntaxKind.{SyntaxKind}
-use Rattle.module.proofs.SyntaxKindLaws.{syntax_gap, syntax_told}
 use Rattle.sheet.specs.Nodes.{node_of, got_node, FormedNode, FormedSpans}
 use Rattle.sheet.specs.Lines.{span_of}
 use Rattle.sheet.specs.Kids.{kid_of, short_kids, kids_from, RestInside}
@@ -60,24 +58,6 @@ same_got h = (cc, cc)
 not_bad : {A : Type 0} {w : spec.Fault} {p q : ℕ} {y : A} → bad w p ≡ got y q → ⊥
 not_bad h = cc
 
--- the kind of a node that was read
-kind_line : (root : Bool) (s : List ℕ) (at v to : ℕ) → (if root then number "kind=" wrong_kind 21 21 else number "kind=" wrong_kind 1 33) s at ≡ got v to
-    → (0 < v) × (v ≤ 33)
-kind_line true s at v to e = let w = number_within "kind=" wrong_kind 21 21 s at v to e in (omega (arith, w.0), omega (arith, w.1))
-kind_line false s at v to e = number_within "kind=" wrong_kind 1 33 s at v to e
-
-kind_within : (nodes i : ℕ) (s : List ℕ) (at : ℕ) (n : Node) (to : ℕ) → node nodes i s at ≡ got n to → (0 < n.kind) × (n.kind ≤ 33)
-unfolding node ◌>>=◌ give
-kind_within nodes i s at n to e =
-    let k = read _ s _ n to e in
-    let f = read _ s _ n to k.rest in
-    let t = read _ s _ n to f.rest in
-    let g = read _ s _ n to t.rest in
-    let c = read _ s _ n to g.rest in
-    let x = read _ s _ n to c.rest in
-    let same = same_got x.rest in
-    rw (← same.0) (kind_line (eqb i 0) s at k.value k.place k.first)
-
 module _ (s : List ℕ) (nodes n at : ℕ) (count : nodes ≡ length (nodes_in s)) (few : nodes ≤ 4294967295) (l : n < nodes) (h : Stands s n at) where
   here : First s (length (nodes_in s)) n at (node_at (nodes_in s) n) (drop (n + 1) (nodes_in s)) (length s)
   unfolding node_at
@@ -99,21 +79,14 @@ module _ (s : List ℕ) (nodes n at : ℕ) (count : nodes ≡ length (nodes_in s
       pub spans : FormedSpans s nodes x
       spans = subst (FormedNode s nodes) q f
 
-      kind_known : (0 < x.kind) × (x.kind ≤ 33)
-      kind_known = rw (ap (λ n. n.kind) these.0) (kind_within _ _ _ _ _ _ here.read)
-
-      pub never_unkind : syntax_of_number x.kind ≡ None → ⊥
-      never_unkind z = let g = syntax_gap x.kind z kind_known.0 in omega (arith, g, kind_known.1)
-
       pub within : (x.kids.start ≤ x.kids.end) × (x.kids.end ≤ length s)
       within = (spans.kids.ordered, omega (arith, spans.kids.within))
 
-      pub lines_read : (k : SyntaxKind) → Some k ≡ syntax_of_number x.kind → (kids : Bor (List ℕ)) → kids.now ≡ span_of s x.kids
-          → Read s n (record { kind = k; kids = kids; next = x.next })
+      pub lines_read : (kids : Bor (List ℕ)) → kids.now ≡ span_of s x.kids → Read s n (record { kind = x.kind; kids = kids; next = x.next })
       unfolding kids_in
-      lines_read k z kids a =
+      lines_read kids a =
           record {
-            kind = syntax_told x.kind k (sym z) ∙ ap (λ n. n.kind) these.0;
+            kind = ap (λ n. n.kind) these.0;
             kids = rw a (ap (λ n. n.kids) these.0);
             listed = rw a (record { formed = spans.kids.formed; low = below_more nodes 4294967295 few _ spans.kids.fits });
             low = rw (a, ← count) spans.kids.fits;
@@ -153,17 +126,36 @@ module _ (v : List ℕ) (h : Kids v) where
         first (Some p) e i = after p.0 p.1.now (walk_kid v 4294967295 (omega arith) (kids_in v) h.formed h.low (kid_of p.0) p.1.now e) i.less
 
 -- ---- counting
--- some kids are counted, and the others are in a list
-pub record Counting (v : List ℕ) (count : ℕ) (rest : List ℕ) : Type 0 where
-  pub kids : Kids rest
-  pub all : length (kids_in v) ≡ count + length (kids_in rest)
-  pub few : count + length rest ≤ length v
+-- a list is cut into one part more than it has commas
+cut_parts : (v : List ℕ) → length (cut_at_commas v) ≡ count_by (λ b. eqb b 44) v + 1
+unfolding cut_at_commas cut_before
+cut_parts [] = refl
+cut_parts (c ∷ v) = rw sum_by-cons (go (eqb c 44) (cut_at_commas v) (cut_parts v))
+  where
+    go : (t : Bool) (ps : List (List ℕ)) → length ps ≡ count_by (λ b. eqb b 44) v + 1 → length (cut_before t c ps) ≡ cond t 1 0 + count_by (λ b. eqb b 44) v + 1
+    go true ps e = omega (arith, e)
+    go false [] e = absurd (omega (arith, e))
+    go false (p ∷ ps) e = omega (arith, e)
 
-pub counting_none : {v : List ℕ} → Kids v → Counting v 0 v
-counting_none k = record { kids = k; all = omega arith; few = omega arith }
+-- and has a kid for each part
+each_part : (ps : List (List ℕ)) (ks : List (math.Option NodeId)) → all_kids ps ≡ math.some ks → length ks ≡ length ps
+unfolding all_kids
+each_part [] [] e = refl
+each_part [] (k ∷ ks) e = cc
+each_part (p ∷ ps) ks e = go (kid p) (all_kids ps) (each_part ps) ks e
+  where
+    go : (k : math.Option (math.Option NodeId)) (o : math.Option (List (math.Option NodeId))) → ((js : List (math.Option NodeId)) → o ≡ math.some js → length js ≡ length ps)
+        → (ks : List (math.Option NodeId)) → maybe k math.none (λ k. math.map (λ js. k ∷ js) o) ≡ math.some ks → length ks ≡ suc (length ps)
+    go math.none o f ks e = cc
+    go (math.some k) math.none f ks e = cc
+    go (math.some k) (math.some js) f ks e = let same : k ∷ js ≡ ks = cc in omega (arith, f js refl, ap length (sym same))
 
-pub counting_more : {v : List ℕ} {count : ℕ} {l : List ℕ} {k : Option ℕ} {rest : List ℕ} → Counting v count l → After l k rest → Counting v (count + 1) rest
-counting_more c a = record { kids = a.others; all = omega (arith, ap length a.same); few = omega arith }
+pub count_none : (v : List ℕ) → length v ≡ 0 → 0 ≡ length (kids_in v)
+unfolding kids_in kid_list
+count_none [] e = refl
+count_none (c ∷ v) e = absurd (omega (arith, e))
 
-pub counting_end : {v : List ℕ} {count : ℕ} {rest : List ℕ} → Counting v count rest → kids_in rest ≡ [] → count ≡ length (kids_in v)
-counting_end c e = omega (arith, ap length e)
+pub count_some : (v : List ℕ) → Kids v → (length v ≡ 0 → ⊥) → count_by (λ b. eqb b 44) v + 1 ≡ length (kids_in v)
+unfolding kid_list
+count_some [] h n = absurd (n refl)
+count_some (c ∷ v) h n = sym (each_part (cut_at_commas (c ∷ v)) (kids_in (c ∷ v)) h.formed ∙ cut_parts (c ∷ v))

@@ -10,23 +10,14 @@ use lib.ListN.{length, take, drop}
 use native.Mathlib.Omega.{arith}
 use Rattle.std.proofs.lemmas.List.{length-map}
 use borrow.Rule.Slice.PartAt.{part_to_end}
-use borrow.Author.Tests.{le-leb, lt-leb, ne_eqb}
+use borrow.Author.Tests.{le-leb, lt-leb}
 use Rattle.spec.specs.Tree.{count_fits}
 use Rattle.spec.specs.Kinds as Kinds
 use Rattle.spec.specs.Kinds.{kind_of}
-use Rattle.module.specs.SyntaxKinds.{number_of_syntax}
-use Rattle.module.specs.declared.syntax_kind.SyntaxKind.{SyntaxKind}
-use Rattle.module.specs.declared.syntax_kind.SyntaxKind.TheVariants as kind
-use Rattle.module.proofs.SyntaxKindLaws.{syntax_same}
 use Rattle.tree.specs.Slots.{slot_of}
 use Rattle.tree.specs.Places.{counted_of, listed_in, listed_of, Fills}
 use Rattle.tree.specs.declared.slots.Slot.{Slot}
 use Rattle.tree.specs.declared.places.Places.{Places}
-
--- a kind that is no path may have any number of items
-pub long_enough : (k : SyntaxKind) (kids : ℕ) → (k ≡ kind.Attrpath → ⊥) → true ≡ (if eqb (number_of_syntax k) 23 then leb kids 16 else true)
-unfolding number_of_syntax
-long_enough k kids h = rw (ne_eqb (number_of_syntax k) 23 (λ e. h (syntax_same k kind.Attrpath e)))
 
 abbrev count_in : ℕ → ℕ → List Kinds.Slot → math.Option Kinds.Slot → Bool
 count_in kind kids c l =
@@ -56,6 +47,11 @@ module _ (kind kids : ℕ) (p : Places) (f : Fills p (kind_of kind)) where
       h
       ∙ (sym (ap (λ b. b && (if eqb kind 23 then leb kids 16 else true)) (le-leb _ _ (omega (arith, counted))))
       ∙ count_in_lem (math.some (slot_of slot)) (ap listed_in q))
+
+-- a kind without places has no kid
+pub count_bare : (kind kids : ℕ) → kind_of kind ≡ Kinds.places [] math.none → eqb kids 0 ≡ count_fits kind kids
+unfolding count_fits
+count_bare kind kids e = sym (ap (λ (k : Kinds.Kind). count_in kind kids k.counted k.listed) e)
 
 -- what a slice gives after its first element
 pub after_first : (xs : List Slot) → 1 ≤ length xs → (x : Kinds.Slot) × (map slot_of xs ≡ x ∷ map slot_of (take (length xs - 1) (drop 1 xs)))

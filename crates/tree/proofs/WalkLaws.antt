@@ -241,8 +241,5 @@ module _ {s : List ℕ} {nodes left : ℕ} {n : NodeId} {t u : Todo} {v w : List
         ready = h.1;
       }
 
-  pub going_stops : (kid : Option ℕ) (x : List ℕ) → After w kid x → (r : SheetRefused) → Steps s left n kid u (Err r) → Walks s (kids_walk s left n t (kids_in v)) (Err r)
-  going_stops kid x a r h = record { same = h (kids_in x) ∙ (ap (kids_walk s left n u) (sym a.same) ∙ g.same); moved = tt }
-
   pub going_ends : kids_in w ≡ [] → Walks s (kids_walk s left n t (kids_in v)) (Ok u.front)
   going_ends e = walks_as g.same (ended s left n u w e g.ready)

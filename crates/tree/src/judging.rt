@@ -5,6 +5,7 @@ ghost use Rattle.sheet.specs.Sheets.{numbered, answer};
 ghost use Rattle.tree.specs.Judge.{Nodes, told};
 
 use crate::nodes::Tree;
+use crate::walk::Parent;
 use refusals::Refusal;
 use sheet::{Position, SheetRefused, read_sheet};
 
@@ -16,7 +17,8 @@ fn judge_tree(s: &[u8], nodes: u32, first: Position) -> Result<(), SheetRefused>
 {
     let tree = Tree { sheet: s, nodes };
     let root = tree.lines(0, first);
-    let front = tree.walk(0, 255, root)?;
+    let top = Parent { node: 0, left: 255 };
+    let front = tree.walk(top, root)?;
     let next = front.highest as usize + 1;
     if next != nodes as usize {
         return Err(SheetRefused {

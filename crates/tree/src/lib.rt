@@ -13,4 +13,5 @@ mod slots;
 mod walk;
 
 pub use judging::judge;
+pub use places::{Places, count_fits, places_of};
 pub use slots::{Slot, takes};

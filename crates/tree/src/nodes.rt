@@ -30,13 +30,9 @@ impl<'a> Tree<'a> {
         let Ok(node) = here.node(self.sheet, self.nodes, n) else {
             unreachable!()
         };
-        let Some(kind) = SyntaxKind::of(node.kind) else {
-            unreachable!()
-        };
-        let kids = node.kids.of(self.sheet);
         Lines {
-            kind,
-            kids,
+            kind: node.kind,
+            kids: node.kids.of(self.sheet),
             next: node.next,
         }
     }
@@ -53,16 +49,13 @@ pub fn first_kid(kids: &[u8]) -> Option<(Option<u32>, &[u8])>
     first
 }
 
-// How many kids a list has, absent ones too.
+// How many kids a list has, absent ones too: one more than its commas, or none where it is empty.
 pub fn count_kids(kids: &[u8]) -> usize
     requires { Kids kids.now }
     ensures { result ≡ length (kids_in kids.now) }
 {
-    let mut count: usize = 0;
-    let mut left = kids;
-    while let Some((_, rest)) = first_kid(left) {
-        count += 1;
-        left = rest;
+    if kids.is_empty() {
+        return 0;
     }
-    count
+    kids.iter().filter(|b| **b == b',').count() + 1
 }

@@ -132,3 +132,24 @@ impl Places {
         }
     }
 }
+
+// The places of a kind by its number, of which a number that is no kind has none. It promises something for every
+// number, and to take a `SyntaxKind` would ask more of callers.
+pub fn places_of(kind: u32) -> Places
+    ensures { Fills result (kind_of kind) }
+{
+    match SyntaxKind::of(kind) {
+        Some(kind) => Places::of(kind),
+        None => Places::only(&[]),
+    }
+}
+
+// By number for the same reason: a node whose number is no kind may have no kid.
+pub fn count_fits(kind: u32, kids: usize) -> bool
+    ensures { result ≡ count_fits kind kids }
+{
+    match SyntaxKind::of(kind) {
+        Some(kind) => Places::of(kind).fit(kind, kids),
+        None => kids == 0,
+    }
+}

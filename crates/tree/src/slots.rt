@@ -43,7 +43,8 @@ impl Slot {
     }
 }
 
-// The same of the number of a kind. No slot takes a number that is no kind.
+// The same by the number of a kind: no slot takes a number that is no kind. It promises something for every number, and
+// to take a `SyntaxKind` would ask more of callers.
 pub fn takes(slot: Slot, kind: u32) -> bool
     ensures { result ≡ Kinds.takes (slot_of slot) kind }
 {

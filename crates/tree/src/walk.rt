@@ -16,6 +16,13 @@ use crate::slots::Slot;
 use refusals::Refusal;
 use sheet::{Position, SheetRefused};
 
+// A node as a parent of kids: its number, and how many levels are left below it.
+#[derive(Clone, Copy)]
+pub struct Parent {
+    pub node: u32,
+    pub left: u32,
+}
+
 // The highest node met, and the place of the node after it.
 #[derive(Clone, Copy)]
 pub struct Front {
@@ -30,54 +37,53 @@ pub struct Todo {
     pub front: Front,
 }
 
-// The node n is refused as a parent.
-fn at_parent(why: Refusal, n: u32) -> SheetRefused
-    ensures { (result.why ≡ why) × (result.place ≡ n) }
-{
-    SheetRefused {
-        why,
-        place: n as usize,
+impl Parent {
+    // The node is refused as a parent.
+    fn refused(self, why: Refusal) -> SheetRefused
+        ensures { (result.why ≡ why) × (result.place ≡ self.node) }
+    {
+        SheetRefused {
+            why,
+            place: self.node as usize,
+        }
     }
 }
 
 impl Tree<'_> {
-    // The kid k of the node n, which goes into the slot: the place and the kind are judged before the depth.
+    // The kid k, which goes into the slot: the place and the kind are judged before the depth.
     #[cycle(walk)]
-    fn enter(
-        self,
-        n: u32,
-        left: u32,
-        k: u32,
-        slot: Slot,
-        front: Front,
-    ) -> Result<Front, SheetRefused>
+    fn enter(self, parent: Parent, k: u32, slot: Slot, front: Front) -> Result<Front, SheetRefused>
         requires { (k < self.nodes) × Stands self.sheet.now (front.highest + 1) front.next.at }
-        ensures { Walks self.entry.sheet.now (entered (nodes_in self.entry.sheet.now) left n (slot_of slot) k front.highest) result }
+        ensures { Walks self.entry.sheet.now (entered (nodes_in self.entry.sheet.now) parent.left parent.node (slot_of slot) k front.highest) result }
     {
         if k != front.highest + 1 {
-            return Err(at_parent(Refusal::MisplacedKid, n));
+            return Err(parent.refused(Refusal::MisplacedKid));
         }
         let lines = self.lines(k, front.next);
         if !slot.takes(lines.kind) {
-            return Err(at_parent(Refusal::MisplacedKid, n));
+            return Err(parent.refused(Refusal::MisplacedKid));
         }
-        if left == 0 {
-            return Err(at_parent(Refusal::TooDeep, n));
+        if parent.left == 0 {
+            return Err(parent.refused(Refusal::TooDeep));
         }
-        self.walk(k, left - 1, lines)
+        let kid = Parent {
+            node: k,
+            left: parent.left - 1,
+        };
+        self.walk(kid, lines)
     }
 
-    // The next kid of the node n, or an absent one: only a counted place may stay empty.
+    // The next kid, or an absent one: only a counted place may stay empty.
     #[cycle(walk)]
-    fn walk_kid(self, n: u32, left: u32, kid: Option<u32>, todo: Todo) -> Result<Todo, SheetRefused>
+    fn walk_kid(self, parent: Parent, kid: Option<u32>, todo: Todo) -> Result<Todo, SheetRefused>
         requires { ForSome kid (λ k. k < self.nodes) × TodoStands self.sheet.now todo }
-        ensures { Steps self.entry.sheet.now left n kid todo result }
+        ensures { Steps self.entry.sheet.now parent.left parent.node kid todo result }
     {
         let Some(k) = kid else {
             let places = todo
                 .places
                 .skip()
-                .ok_or(at_parent(Refusal::MisplacedKid, n))?;
+                .ok_or(parent.refused(Refusal::MisplacedKid))?;
             return Ok(Todo {
                 places,
                 front: todo.front,
@@ -86,44 +92,44 @@ impl Tree<'_> {
         let (slot, places) = todo
             .places
             .fill()
-            .ok_or(at_parent(Refusal::MisplacedKid, n))?;
-        let front = self.enter(n, left, k, slot, todo.front)?;
+            .ok_or(parent.refused(Refusal::MisplacedKid))?;
+        let front = self.enter(parent, k, slot, todo.front)?;
         Ok(Todo { places, front })
     }
 
-    // All kids of the node n, in order.
+    // All kids, in order.
     #[cycle(walk)]
     fn walk_kids(
         self,
-        n: u32,
-        left: u32,
+        parent: Parent,
         mut kids: &[u8],
         mut todo: Todo,
     ) -> Result<Front, SheetRefused>
         requires { Kids kids.now × ((all_below self.nodes (kids_in kids.now) ≡ true) × TodoStands self.sheet.now todo) }
-        ensures { Walks self.entry.sheet.now (kids_walk self.entry.sheet.now left n todo (kids_in kids.now)) result }
+        ensures { Walks self.entry.sheet.now (kids_walk self.entry.sheet.now parent.left parent.node todo (kids_in kids.now)) result }
     {
+        // `while let`, since the bytes are no slice of kids: where a kid ends is known once it is read.
         while let Some((kid, rest)) = first_kid(kids) {
-            todo = self.walk_kid(n, left, kid, todo)?;
+            todo = self.walk_kid(parent, kid, todo)?;
             kids = rest;
         }
         Ok(todo.front)
     }
 
-    // The node n, whose lines were read, and all below it, with so many levels left.
+    // A node, whose lines were read, and all below it.
     #[cycle(walk)]
-    pub fn walk(self, n: u32, left: u32, lines: Lines) -> Result<Front, SheetRefused>
-        requires { Read self.sheet.now n lines }
-        ensures { Walks self.entry.sheet.now (walk_to (nodes_in self.entry.sheet.now) left n) result }
+    pub fn walk(self, parent: Parent, lines: Lines) -> Result<Front, SheetRefused>
+        requires { Read self.sheet.now parent.node lines }
+        ensures { Walks self.entry.sheet.now (walk_to (nodes_in self.entry.sheet.now) parent.left parent.node) result }
     {
         let places = Places::of(lines.kind);
         if !places.fit(lines.kind, count_kids(lines.kids)) {
-            return Err(at_parent(Refusal::WrongArity, n));
+            return Err(parent.refused(Refusal::WrongArity));
         }
         let front = Front {
-            highest: n,
+            highest: parent.node,
             next: lines.next,
         };
-        self.walk_kids(n, left, lines.kids, Todo { places, front })
+        self.walk_kids(parent, lines.kids, Todo { places, front })
     }
 }

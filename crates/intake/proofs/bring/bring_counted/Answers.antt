@@ -1,5 +1,5 @@
 -- `intake::bring::bring_counted` meets its contract.
-use Rattle.intake.proofs.BringLaws.{bringing_start, stopped_brought, all_brought, all_is_in, all_is_not}
+use Rattle.intake.proofs.BringLaws.{bringing_start, stopped_brought, all_brought}
 use borrow.Author.Rules.{rules}
 use Rattle.intake.proofs.bring.bring_counted.Goals as goal
 
@@ -7,7 +7,7 @@ pub bring_all-requires : goal.bring_all-requires
 bring_all-requires c = (search rules, (c.requires.1.few, bringing_start _ _ _ c.requires.1 _ _ _ c.requires.0 c.put32.ensures c.put32-2.ensures))
 
 pub returns-in-None : goal.returns-in-None
-returns-in-None c = stopped_brought _ _ _ _ c.put32.ensures c.put32-2.ensures _ (all_is_not _ _ _ _ _ c.bring_all.ensures c.in-None.is)
+returns-in-None c = stopped_brought _ _ _ _ c.put32.ensures c.put32-2.ensures _ c.in-None.ensures
 
 pub returns-in-Some : goal.returns-in-Some
-returns-in-Some c = all_brought _ _ _ _ c.put32.ensures c.put32-2.ensures _ _ _ (all_is_in _ _ _ _ _ c.bring_all.ensures c.in-Some.is) c.requires.0 c.requires.1.few _ _ c.put32-in-Some.ensures c.put32-in-Some-2.ensures
+returns-in-Some c = all_brought _ _ _ _ c.put32.ensures c.put32-2.ensures _ _ _ c.in-Some.ensures c.requires.0 c.requires.1.few _ _ c.put32-in-Some.ensures c.put32-in-Some-2.ensures

@@ -7,6 +7,3 @@ bring_counted-requires c = (c.requires, counted _ c.first-start.result c.first-s
 
 pub returns-in-Err : goal.returns-in-Err
 returns-in-Err c = count_bad _ c.first-start.result c.first-start.ensures _ c.number.ensures _ c.in-Err.is _
-
-pub returns-in-Ok : goal.returns-in-Ok
-returns-in-Ok c = c.bring_counted.ensures

@@ -1,9 +1,6 @@
 -- `intake::bring::bring_row` meets its contract.
-use Rattle.intake.proofs.BringRowLaws.{row_brought, kids_over, text_over}
+use Rattle.intake.proofs.BringRowLaws.{row_brought, text_over}
 use Rattle.intake.proofs.bring.bring_row.Goals as goal
-
-pub returns-in_err-end : goal.returns-in_err-end
-returns-in_err-end c = rw c.from_residual.ensures (kids_over _ _ _ _ _ (rw c.of.ensures at c.in_err-end.ensures))
 
 pub returns-in_err-texts : goal.returns-in_err-texts
 returns-in_err-texts c =
@@ -11,4 +8,4 @@ returns-in_err-texts c =
 
 pub returns : goal.returns
 returns c =
-    row_brought _ _ _ _ _ _ _ _ _ _ c.requires.0 c.requires.1.0 c.requires.1.1.1 (rw c.of.ensures at c.in_ok-end.ensures) (rw c.of-2.ensures at c.in_ok-texts.ensures) c.put_row.ensures
+    row_brought _ _ _ _ _ _ _ _ _ _ c.requires.0 c.requires.1.0 c.requires.1.1.1 (rw c.of.ensures at c.in_ok-end.ensures) (rw c.of-2.ensures at c.in_ok-texts.ensures) (rw c.number.ensures at c.put_row.ensures)

@@ -1,11 +1,8 @@
 use Rattle.std.proofs.Common.{arith}
 use Rattle.sheet.specs.Kids.{kid_of}
 use Rattle.sheet.proofs.Exits.{same_error}
-use Rattle.sheet.proofs.KidLaws.{judging_start, judging_malformed, judging_end, judging_low, judging_high}
+use Rattle.sheet.proofs.KidLaws.{judging_malformed, judging_end, judging_low, judging_high}
 use Rattle.sheet.proofs.kids.judge_kids.Goals as goal
-
-pub loop-kid-init : goal.loop-kid-init
-loop-kid-init c = judging_start c.args.kids.now c.args.nodes
 
 pub returns-in_err-kid : goal.returns-in_err-kid
 returns-in_err-kid c = rw (same_error _ _ c.from_residual.ensures.1) (judging_malformed c.loop-kid.invariant (omega arith) c.in_err-kid.ensures.result_value)

@@ -1,4 +1,4 @@
-use Rattle.std.proofs.Common.{◌∙◌, ap}
+use Rattle.std.proofs.Common.{◌∙◌, ap, rules}
 use lib.Pointwise.{pointwise}
 use lib.Dec.{eqb}
 use Rattle.sheet.proofs.Exits.{same_error, nothing}
@@ -14,4 +14,4 @@ returns-in_err-n c =
     rw (same_error _ _ c.from_residual.ensures.1) (kid_malformed c.args.part.now (c.if-eq.ensures ∙ ap (pointwise eqb c.args.part.now) c.as_slice.ensures) c.decimal.result c.decimal.ensures p.0)
 
 pub returns : goal.returns
-returns c = kid_number c.args.part.now (c.if-eq.ensures ∙ ap (pointwise eqb c.args.part.now) c.as_slice.ensures) c.decimal.result c.decimal.ensures c.in_ok-n.n c.shortened.result c.in_ok-n.ensures.ok_part c.shortened.ensures
+returns c = kid_number c.args.part.now (c.if-eq.ensures ∙ ap (pointwise eqb c.args.part.now) c.as_slice.ensures) c.decimal.result c.decimal.ensures c.in_ok-n.n c.unwrap_or.result c.in_ok-n.ensures.ok_part (search rules)

@@ -1,17 +1,16 @@
-use Rattle.std.proofs.Common.{◌∙◌, sym}
+-- `sheet::texts::all_digits` meets its contract.
+use Rattle.std.proofs.Common.{refl, length, ◌/◌}
+use Rattle.std.proofs.lemmas.Iterator.{YieldsList-from_slice, cases_from_all}
+use borrow.Author.Rules.{rules}
+use borrow.Author.Tests.{tests}
+use Rattle.spec.specs.Sheet.{is_digit}
+use Rattle.std.proofs.Common.{◌≡◌, true, false}
 use Rattle.sheet.proofs.DecimalLaws.{same_digit}
-use Rattle.sheet.proofs.TextLaws.{numbers_other, numbers_more, numbers_end}
+use Rattle.sheet.proofs.TextLaws.{byte_of, numbers_told}
 use Rattle.sheet.proofs.texts.all_digits.Goals as goal
 
-pub returns-then-not-is_ascii_digit : goal.returns-then-not-is_ascii_digit
-returns-then-not-is_ascii_digit c =
-    numbers_other c.args.text.now c.loop-left.left.now c.loop-left.invariant c.in-len2-up.len_at_least c.hex_byte.result c.hex_byte.ensures
-    (sym (same_digit c.hex_byte.result) ∙ sym c.if-not-is_ascii_digit.ensures.value)
-
-pub loop-left-preserved : goal.loop-left-preserved
-loop-left-preserved c =
-    numbers_more c.args.text.now c.loop-left.left.now c.loop-left.invariant c.in-len2-up.len_at_least c.hex_byte.result c.hex_byte.ensures
-    (sym (same_digit c.hex_byte.result) ∙ sym c.if-not-is_ascii_digit.ensures.value)
-
 pub returns : goal.returns
-returns c = numbers_end c.args.text.now c.loop-left.left.now c.loop-left.invariant c.in_default.len_below
+returns c =
+    numbers_told c.args.text.now (length c.args.text.now / 2) refl _
+    (cases_from_all _ _ _ (λ p. is_digit (byte_of p) ≡ true) (λ p. is_digit (byte_of p) ≡ false) c.all.ensures.ran (YieldsList-from_slice _ (cc))
+    (λ x q k. search (rules, tests, same_digit)) (λ x q k. search (rules, tests, same_digit)))

@@ -1,18 +1,14 @@
-use Rattle.std.proofs.Common.{arith}
-use Rattle.sheet.proofs.TextLaws.{written_none, written_room, written_more, written_all}
+-- `sheet::texts::decode_text` meets its contract.
+use Rattle.std.proofs.Common.{refl, arith, length, ◌/◌}
+use Rattle.sheet.proofs.TextLaws.{written_none, written_more, written_all}
 use Rattle.sheet.proofs.texts.decode_text.Goals as goal
 
-pub loop-left-init : goal.loop-left-init
-loop-left-init c = written_none c.args.d.now c.args.at c.args.text.now
+pub loop-i-init : goal.loop-i-init
+loop-i-init c = written_none c.args.d.now c.args.at c.args.text.now
 
-pub bounds-d-next : goal.bounds-d-next
-bounds-d-next c = written_room c.loop-left.invariant c.in-len2-up.len_at_least c.requires
-
-pub overflow_add-next : goal.overflow_add-next
-overflow_add-next c = omega (arith, written_room c.loop-left.invariant c.in-len2-up.len_at_least c.requires)
-
-pub loop-left-preserved : goal.loop-left-preserved
-loop-left-preserved c = written_more c.loop-left.invariant c.in-len2-up.len_at_least c.hex_byte.result c.hex_byte.ensures
+pub loop-i-preserved : goal.loop-i-preserved
+loop-i-preserved c =
+    written_more c.args.text.now (length c.args.text.now / 2) refl _ _ _ _ c.loop-i.invariant (omega arith) _ (rw c.as_chunks.ensures.front at c.hex_byte.ensures)
 
 pub returns : goal.returns
-returns c = written_all c.loop-left.invariant c.in_default.len_below
+returns c = written_all c.args.text.now (length c.args.text.now / 2) refl _ _ _ _ c.loop-i.invariant (omega arith)

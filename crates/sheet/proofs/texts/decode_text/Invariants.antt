@@ -1,9 +1,8 @@
-use Rattle.std.proofs.Common.{length}
-use Rattle.sheet.proofs.TextLaws.{Written}
+-- The loop of `sheet::texts::decode_text`.
+use Rattle.std.proofs.Common.{◌≡◌, take}
+use Rattle.words.specs.Runs.{splice}
+use Rattle.sheet.specs.Texts.{decoded}
 use Rattle.sheet.proofs.texts.decode_text.Given as goal
 
-abbrev pub invariant-loop-left : goal.invariant-loop-left
-invariant-loop-left l = Written l.fn.d l.at l.text l.d l.next l.left
-
-abbrev pub decreases-loop-left : goal.decreases-loop-left
-decreases-loop-left l = length l.left
+abbrev pub invariant-loop-i : goal.invariant-loop-i
+invariant-loop-i l = l.d ≡ splice l.fn.d l.at (take l.i (decoded l.text))

@@ -22,12 +22,6 @@ returns-in-Ok-true-clause-result_value c =
     c.in_ok-list.list c.in_ok-list.ensures.ok_part c.judge_kids.result (rw (← c.of.ensures) c.judge_kids.ensures)
     (rw c.in_ok-list.ensures.ok_part at c.line.ensures.value_inside) (c.in-Ok-true.is ∙ ap Ok c.in-Ok-true.field-0-test)).0
 
-pub returns-in-Ok-true-clause-formed_in : goal.returns-in-Ok-true-clause-formed_in
-returns-in-Ok-true-clause-formed_in c =
-    (told_right (bytes "kids=") kid_list kids_of kids_agree wrong_kid (all_below c.args.nodes) c.args.s.now c.args.self.at c.line.result c.line.ensures.result_value
-    c.in_ok-list.list c.in_ok-list.ensures.ok_part c.judge_kids.result (rw (← c.of.ensures) c.judge_kids.ensures)
-    (rw c.in_ok-list.ensures.ok_part at c.line.ensures.value_inside) (c.in-Ok-true.is ∙ ap Ok c.in-Ok-true.field-0-test)).1
-
 pub returns-in-Ok-false-clause-result_value : goal.returns-in-Ok-false-clause-result_value
 unfolding line_of line field_of field
 returns-in-Ok-false-clause-result_value c =

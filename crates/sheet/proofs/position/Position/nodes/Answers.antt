@@ -1,10 +1,7 @@
 use Rattle.std.proofs.Common.{arith}
 use Rattle.sheet.proofs.Exits.{same_error}
-use Rattle.sheet.proofs.SheetLaws.{reading_start, reading_bad, reading_more, reading_end}
+use Rattle.sheet.proofs.SheetLaws.{reading_bad, reading_more, reading_end}
 use Rattle.sheet.proofs.position.Position.nodes.Goals as goal
-
-pub loop-i-init : goal.loop-i-init
-loop-i-init c = reading_start c.args.s.now c.args.self.at c.args.nodes c.requires
 
 pub returns-in_err-here : goal.returns-in_err-here
 returns-in_err-here c = rw (same_error _ _ c.from_residual.ensures.1) (reading_bad c.loop-i.invariant c.loop-i-test.true _ _ c.in_err-here.ensures.result_value)

@@ -9,26 +9,26 @@ use Rattle.tree.proofs.nodes.Tree.+walk.Goals as goal
 -- ---- enter
 
 pub enter-returns-then-k-front : goal.enter-returns-then-k-front
-enter-returns-then-k-front t c = stops _ _ _ _ c.at_parent.ensures (misnumbered _ _ _ _ _ _ c.if-k-front.true)
+enter-returns-then-k-front t c = stops _ _ _ _ c.refused.ensures (misnumbered _ _ _ _ _ _ c.if-k-front.true)
 
 pub enter-returns-then-not-takes : goal.enter-returns-then-not-takes
 enter-returns-then-not-takes t c =
-    stops _ _ _ _ c.at_parent-then-not-takes.ensures
+    stops _ _ _ _ c.refused-then-not-takes.ensures
     (misplaced _ _ _ _ _ _ c.if-k-front.false (c.if-not-takes.ensures ∙ ap (takes _) c.lines-lines.ensures.kind))
 
-pub enter-returns-then-left-eq0 : goal.enter-returns-then-left-eq0
-enter-returns-then-left-eq0 t c =
-    stops _ _ _ _ c.at_parent-then-left-eq0.ensures
-    (too_deep _ _ _ _ _ _ c.if-k-front.false (c.if-not-takes.ensures ∙ ap (takes _) c.lines-lines.ensures.kind) c.if-left-eq0.true)
+pub enter-returns-then-parent-eq0 : goal.enter-returns-then-parent-eq0
+enter-returns-then-parent-eq0 t c =
+    stops _ _ _ _ c.refused-then-parent-eq0.ensures
+    (too_deep _ _ _ _ _ _ c.if-k-front.false (c.if-not-takes.ensures ∙ ap (takes _) c.lines-lines.ensures.kind) c.if-parent-eq0.true)
 
 pub enter-returns : goal.enter-returns
 enter-returns t c =
-    walks_as (goes_in _ _ _ _ _ _ c.if-k-front.false (c.if-not-takes.ensures ∙ ap (takes _) c.lines-lines.ensures.kind) c.if-left-eq0.false) c.walk.ensures
+    walks_as (goes_in _ _ _ _ _ _ c.if-k-front.false (c.if-not-takes.ensures ∙ ap (takes _) c.lines-lines.ensures.kind) c.if-parent-eq0.false) c.walk.ensures
 
 -- ---- walk
 
 pub walk-returns-then-not-fit : goal.walk-returns-then-not-fit
-walk-returns-then-not-fit t c = stops _ _ _ _ c.at_parent.ensures (miscounted _ _ _ _ c.requires _ c.count_kids.ensures c.if-not-fit.ensures)
+walk-returns-then-not-fit t c = stops _ _ _ _ c.refused.ensures (miscounted _ _ _ _ c.requires _ c.count_kids.ensures c.if-not-fit.ensures)
 
 pub walk-returns : goal.walk-returns
 walk-returns t c = walks_as (kids_walked _ _ _ _ c.requires _ c.count_kids.ensures c.if-not-fit.ensures _ c.of-places.ensures) c.walk_kids.ensures
@@ -38,7 +38,7 @@ walk-returns t c = walks_as (kids_walked _ _ _ _ c.requires _ c.count_kids.ensur
 pub walk_kid-returns-in_err-places : goal.walk_kid-returns-in_err-places
 walk_kid-returns-in_err-places t c =
     let p = err_from_is_err_and c.from_residual.result c.from_residual.ensures.1 in
-    rw (p.1, p.2) (no_place _ _ _ c.args.todo _ c.in_default.is _ c.skip.ensures _ c.at_parent.ensures _ c.in_err-places.ensures.value c.in_err-places.ensures.ok_part)
+    rw (p.1, p.2) (no_place _ _ _ c.args.todo _ c.in_default.is _ c.skip.ensures _ c.refused.ensures _ c.in_err-places.ensures.value c.in_err-places.ensures.ok_part)
 
 pub walk_kid-returns-in_default : goal.walk_kid-returns-in_default
 walk_kid-returns-in_default t c =
@@ -47,7 +47,7 @@ walk_kid-returns-in_default t c =
 pub walk_kid-returns-in_err-slot : goal.walk_kid-returns-in_err-slot
 walk_kid-returns-in_err-slot t c =
     let p = err_from_is_err_and c.from_residual-in_err-slot.result c.from_residual-in_err-slot.ensures.1 in
-    rw (p.1, p.2) (no_slot _ _ _ c.args.todo _ _ c.in-Some.is _ c.fill.ensures _ c.at_parent-2.ensures _ c.in_err-slot.ensures.value c.in_err-slot.ensures.ok_part)
+    rw (p.1, p.2) (no_slot _ _ _ c.args.todo _ _ c.in-Some.is _ c.fill.ensures _ c.refused-2.ensures _ c.in_err-slot.ensures.value c.in_err-slot.ensures.ok_part)
 
 pub walk_kid-returns-in_err-front : goal.walk_kid-returns-in_err-front
 walk_kid-returns-in_err-front t c =
