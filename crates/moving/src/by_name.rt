@@ -1,11 +1,10 @@
 // What a new text of a name moves.
-ghost use Rattle.std.specs.Prelude.{◌≡◌, [], ◌+◌, ◌*◌, ◌≤◌, length};
+ghost use Rattle.std.specs.Prelude.{◌≡◌, [], length};
 ghost use Rattle.spec.specs.Calls.{at_name};
 ghost use Rattle.spec.specs.Moved.{cons_if};
 ghost use Rattle.spec.specs.Kept.{moved_by};
 ghost use Rattle.layout.specs.Layout.{Long};
-ghost use Rattle.layout.specs.Keeps.{scopes_in, kept_in};
-ghost use Rattle.nameres.specs.Resolution.{Nameable};
+ghost use Rattle.layout.specs.Keeps.{kept_in};
 ghost use Rattle.moving.specs.Moving.{differs, About, MovesTo, Fits, MovesOne, MovesAnswers, Movable, Moves};
 
 use crate::moved::unless_kept;
@@ -13,7 +12,7 @@ use crate::named::{Named, find_name, may_move};
 use answer::Answer;
 use kept::set_answer;
 use listing::list_references;
-use module::{ExprId, NameId, TextId};
+use module::{ExprId, NameId};
 use resolve::resolve_renamed;
 use rows::{expr_count, reference_text};
 use words::put32;
