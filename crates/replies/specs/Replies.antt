@@ -41,8 +41,8 @@ unfoldable pub buffer_after : Outcome → List ℕ → List ℕ
 buffer_after o buffer = set_all buffer 0 (list_of o)
 
 -- so many numbers, where they fit so many bytes; else the call is refused, and the place is how many there are
-abbrev pub in_room : ℕ → ℕ → Refusal → Result ℕ Refused
-in_room n bytes why = if ltb bytes (4 * n) then Err (record { 0 = why; 1 = n }) else Ok n
+abbrev pub in_bytes : ℕ → ℕ → Refusal → Result ℕ Refused
+in_bytes n bytes why = if ltb bytes (4 * n) then Err (record { 0 = why; 1 = n }) else Ok n
 
 -- what a load comes to
 unfoldable pub load_outcome : Judged → Outcome

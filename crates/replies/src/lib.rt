@@ -6,7 +6,7 @@
 ghost use Rattle.std.specs.Prelude.{◌≡◌, ◌≤◌, length};
 ghost use Rattle.spec.specs.Calls.{reply_bytes, refusal};
 ghost use Rattle.refusals.specs.Numbers.{number_of};
-ghost use Rattle.replies.specs.Replies.{Told, ToldMoved, ToldList, ToldAnswer, in_room};
+ghost use Rattle.replies.specs.Replies.{Told, ToldMoved, ToldList, ToldAnswer, in_bytes};
 
 use answer::{Answer, answer_number, answer_value};
 use layout::put_words;
@@ -42,7 +42,7 @@ impl Refused {
 
 // A list of so many numbers has to fit the bytes that are lent for it: 26 or 34, whose place is the length of the list.
 pub fn room_for(count: u32, bytes: usize, short: Refusal) -> Result<u32, Refused>
-    ensures { result ≡ in_room count bytes short }
+    ensures { result ≡ in_bytes count bytes short }
 {
     if bytes < 4 * count as usize {
         return Err(Refused(short, count));
