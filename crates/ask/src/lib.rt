@@ -13,13 +13,13 @@ ghost use Rattle.answer.specs.Answers.{answer_with};
 ghost use Rattle.kept.specs.Answers.{withs_at};
 ghost use Rattle.resolve.specs.Withs.{Lists};
 ghost use Rattle.requests.specs.Requests.{Asked};
+ghost use Rattle.ask.specs.Finds.{FindsAnswer, FindsReferences};
 
 use answer::Answer;
 use kept::kept_answer;
-use layout::wide;
 use module::{ExprId, NameId};
 use refusals::Refusal;
-use replies::{Refused, tell_answer, tell_list};
+use replies::{Refused, room_for, tell_answer, tell_count};
 use requests::begin;
 use resolve::{list_kept_references, list_withs};
 use rows::{expr_count, name_count};
@@ -36,23 +36,32 @@ fn list_answer(store: &[u8], e: ExprId, a: Answer, buffer: &mut [u8]) -> u32
     }
 }
 
+// The answer of a Reference, and how many Withs it has: 24, 25 and 26.
+fn find_answer(store: &[u8], number: u32, buffer: &mut [u8]) -> Result<(Answer, u32), Refused>
+    requires { Long store.now }
+    ensures { FindsAnswer number store.now buffer.old result buffer.new }
+{
+    if expr_count(store) <= number {
+        return Err(Refused(Refusal::NoSuchNumber, number));
+    }
+    let Some(a) = kept_answer(store, ExprId(number)) else {
+        return Err(Refused(Refusal::NotAReference, number));
+    };
+    let bytes = buffer.len();
+    let with_count = list_answer(store, ExprId(number), a, buffer);
+    room_for(with_count, bytes, Refusal::BufferShort)?;
+    Ok((a, with_count))
+}
+
 // Of a fit store.
 fn tell_reference(store: &[u8], number: u32, buffer: &mut [u8], reply: &mut [u8]) -> u32
     requires { (condition_of store.now ≡ fit) × (reply_bytes ≤ length reply.old) }
     ensures { Asked (ask_reference number (length buffer.old) (length reply.old)) store.now buffer.old reply.old result buffer.new reply.new }
 {
-    if expr_count(store) <= number {
-        return Refused(Refusal::NoSuchNumber, number).tell(reply);
+    match find_answer(store, number, buffer) {
+        Ok((a, with_count)) => tell_answer(reply, a, with_count),
+        Err(refused) => refused.tell(reply),
     }
-    let Some(a) = kept_answer(store, ExprId(number)) else {
-        return Refused(Refusal::NotAReference, number).tell(reply);
-    };
-    let room = buffer.len();
-    let with_count = list_answer(store, ExprId(number), a, buffer);
-    if room < 4 * wide(with_count) {
-        return Refused(Refusal::BufferShort, with_count).tell(reply);
-    }
-    tell_answer(reply, a, with_count)
 }
 
 // What the name of a Reference means.
@@ -65,20 +74,29 @@ pub fn ask_reference(store: &[u8], number: u32, buffer: &mut [u8], reply: &mut [
     }
 }
 
+// How many references a name has: 24 and 26. What is left of the pair of calls is each call's own: which numbers there
+// are, which list is asked for, and which words are told.
+fn find_references(store: &[u8], number: u32, buffer: &mut [u8]) -> Result<u32, Refused>
+    requires { Long store.now }
+    ensures { FindsReferences number store.now buffer.old result buffer.new }
+{
+    if name_count(store) <= number {
+        return Err(Refused(Refusal::NoSuchNumber, number));
+    }
+    let bytes = buffer.len();
+    let use_count = list_kept_references(store, NameId(number), buffer);
+    room_for(use_count, bytes, Refusal::BufferShort)
+}
+
 // Of a fit store.
 fn tell_name(store: &[u8], number: u32, buffer: &mut [u8], reply: &mut [u8]) -> u32
     requires { (condition_of store.now ≡ fit) × (reply_bytes ≤ length reply.old) }
     ensures { Asked (ask_name number (length buffer.old) (length reply.old)) store.now buffer.old reply.old result buffer.new reply.new }
 {
-    if name_count(store) <= number {
-        return Refused(Refusal::NoSuchNumber, number).tell(reply);
+    match find_references(store, number, buffer) {
+        Ok(use_count) => tell_count(reply, use_count),
+        Err(refused) => refused.tell(reply),
     }
-    let room = buffer.len();
-    let use_count = list_kept_references(store, NameId(number), buffer);
-    if room < 4 * wide(use_count) {
-        return Refused(Refusal::BufferShort, use_count).tell(reply);
-    }
-    tell_list(reply, use_count)
 }
 
 // Which References mean a name.

@@ -1,5 +1,5 @@
 -- What each way through the checks of a change comes to. Assumes nothing.
-use Rattle.std.specs.Prelude.{if◌then◌else◌}
+use Rattle.std.specs.Prelude.{ok_or}
 use mathlib.Core.Path.{◌≡◌, refl, sym, ap, ◌∙◌}
 use mathlib.Core.Bool.{Bool, true, false}
 use mathlib.Core.List.{List, []}
@@ -12,9 +12,10 @@ use lib.Dec.{ltb}
 use borrow.Author.Tests.{le-ltb, lt-ltb, ltb-false, le-leb, lt-leb}
 use Rattle.words.specs.Equality.{equalb}
 use Rattle.spec.specs.Basics.{Text, ExprId}
+use Rattle.spec.specs.Module.{Module}
 use Rattle.spec.specs.Scopes.{expr_at, name_at}
 use Rattle.spec.specs.Answer.{reference_text}
-use Rattle.spec.specs.Calls.{Call, change_reference, change_name, refusal, accepted, check, buffer_of, Place, at_name, at_reference, text_at, or_empty, old_text, new_text, give_moved, in_room, give_text, if_reference, answer_call}
+use Rattle.spec.specs.Calls.{Call, change_reference, refusal, accepted, check, reply_of, buffer_of, Place, at_name, at_reference, text_at, or_empty, old_text, new_text, give_moved, in_room, give_text, if_reference, answer_call}
 use Rattle.spec.specs.Kept.{Kept, kept_answer, kept_references, resolved_again, moved_by, changed_to, kept_with, changed, kept_moved}
 use Rattle.spec.proofs.general.ListLaws.{get_d_tabulate}
 use Rattle.spec.proofs.change.MovedLaws.{nothing_differs, differs_alike}
@@ -22,13 +23,12 @@ use Rattle.layout.specs.Layout.{room_limit}
 use Rattle.layout.specs.Texts.{text_in, maybe_text}
 use Rattle.layout.specs.States.{exprs_of, names_of, module_in}
 use Rattle.layout.specs.Keeps.{kept_in}
-use Rattle.moving.specs.Moving.{Refers}
 use Rattle.requests.specs.Requests.{own_outcome}
 use Rattle.nameres.proofs.StepLaws.{exprs_many}
 use Rattle.requests.proofs.StateLaws.{names_counted}
-use Rattle.change.specs.Judged.{from_text, from_moved, after_text, JudgesText, outcome_of, moves_within, Judges}
+use Rattle.replies.specs.Replies.{in_bytes}
+use Rattle.change.specs.Judged.{call_at, after, from_text, from_moved, Held, JudgesText, outcome_of, Judges}
 use Rattle.refusals.specs.Numbers.{number_of}
-use Rattle.refusals.specs.declared.refusal.Refusal.{Refusal}
 use Rattle.refusals.specs.declared.refusal.Refusal.TheVariants.{MovedShort, TextTooLong, NoSuchNumber, NotAReference, RoomSpent}
 use Rattle.replies.specs.declared.Refused.{Refused}
 use Rattle.module.specs.declared.ids.TextId as rust_text_id
@@ -56,7 +56,7 @@ moved_none k c h = rw (h, nothing_differs k.lowered (kept_answer k))
 -- ---- 8 and 27
 module _ (s : List ℕ) (h : ℕ) (t : Text) where
   pub text_long : 255 < length t → JudgesText s h t (rust.Err (record { 0 = TextTooLong; 1 = 255 }))
-  unfolding give_text check after_text
+  unfolding give_text check after
   text_long l =
       record {
         comes = λ c old new. rw (new, lt-ltb 255 (length t) l);
@@ -66,7 +66,7 @@ module _ (s : List ℕ) (h : ℕ) (t : Text) where
 
   module _ (short : length t ≤ 255) (same : Bool) (compared : same ≡ equalb (text_in s h) t) where
     pub text_same : same ≡ true → JudgesText s h t (rust.Ok false)
-    unfolding give_text in_room check after_text
+    unfolding give_text in_room check after
     text_same q =
         record {
           comes = λ c old new. rw (old, new, le-ltb 255 (length t) short, ← compared, q);
@@ -76,7 +76,7 @@ module _ (s : List ℕ) (h : ℕ) (t : Text) where
 
     module _ (differs : same ≡ false) (full : Bool) (room : full ≡ ltb room_limit ((kept_in s).spent + length t)) where
       pub text_full : full ≡ true → JudgesText s h t (rust.Err (record { 0 = RoomSpent; 1 = 0 }))
-      unfolding give_text in_room check after_text
+      unfolding give_text in_room check after
       text_full q =
           record {
             comes = λ c old new. rw (old, new, le-ltb 255 (length t) short, ← compared, differs, ← room, q);
@@ -85,7 +85,7 @@ module _ (s : List ℕ) (h : ℕ) (t : Text) where
           }
 
       pub text_other : full ≡ false → JudgesText s h t (rust.Ok true)
-      unfolding give_text in_room check after_text
+      unfolding give_text in_room check after
       text_other q =
           record {
             comes = λ c old new. rw (old, new, le-ltb 255 (length t) short, ← compared, differs, ← room, q);
@@ -93,151 +93,178 @@ module _ (s : List ℕ) (h : ℕ) (t : Text) where
             other = λ _. (sym compared ∙ differs, ltb-false room_limit ((kept_in s).spent + length t) (sym room ∙ q));
           }
 
--- ---- a call that names something there is, and its text
--- whatever its reply, it sets the text t at a place where the text numbered h stands
-record Sets (c : ℕ → Call) (p : Place) (t : Text) (bytes : ℕ) (s : List ℕ) (h : ℕ) : Type 0 where
-  own : (reply : ℕ) → own_outcome s (c reply) ≡ from_text s (c reply)
-  old : (reply : ℕ) → old_text (kept_in s).lowered (c reply) ≡ text_in s h
-  new : (reply : ℕ) → new_text (c reply) ≡ t
-  lent : (reply : ℕ) → buffer_of (c reply) ≡ bytes
-  sets : (reply : ℕ) → kept_with (kept_in s) (c reply) ≡ changed_to (kept_in s) p t
-  stands : text_at (kept_in s).lowered p ≡ text_in s h
+-- ---- the call that sets a text at a place
+pub call_new : (p : Place) (t : Text) (bytes reply : ℕ) → new_text (call_at p t bytes reply) ≡ t
+unfolding new_text
+call_new (at_name x) t bytes reply = refl
+call_new (at_reference e) t bytes reply = refl
 
-refuses : (c : ℕ → Call) (p : Place) (t : Text) (bytes : ℕ) (s : List ℕ) (x : Refused) → ((reply : ℕ) → own_outcome s (c reply) ≡ refusal (number_of x.0) x.1) → Judges c p t bytes s (rust.Err x)
+pub call_old : (m : Module) (p : Place) (t : Text) (bytes reply : ℕ) → old_text m (call_at p t bytes reply) ≡ text_at m p
+unfolding old_text
+call_old m (at_name x) t bytes reply = refl
+call_old m (at_reference e) t bytes reply = refl
+
+call_lent : (p : Place) (t : Text) (bytes reply : ℕ) → buffer_of (call_at p t bytes reply) ≡ bytes
+unfolding buffer_of
+call_lent (at_name x) t bytes reply = refl
+call_lent (at_reference e) t bytes reply = refl
+
+pub call_reply : (p : Place) (t : Text) (bytes reply : ℕ) → reply_of (call_at p t bytes reply) ≡ reply
+unfolding reply_of
+call_reply (at_name x) t bytes reply = refl
+call_reply (at_reference e) t bytes reply = refl
+
+pub call_sets : (k : Kept) (p : Place) (t : Text) (bytes reply : ℕ) → kept_with k (call_at p t bytes reply) ≡ changed_to k p (new_text (call_at p t bytes reply))
+unfolding kept_with new_text
+call_sets k (at_name x) t bytes reply = refl
+call_sets k (at_reference e) t bytes reply = refl
+
+-- ---- 24
+module _ (s : List ℕ) (n k : ℕ) (counted : k ≡ length (names_of s)) where
+  pub no_name : k ≤ n → Held (at_name n) s (rust.Err (record { 0 = NoSuchNumber; 1 = n }))
+  unfolding answer_call check after
+  no_name l =
+      record {
+        comes = λ t bytes reply. rw (le-leb (length (kept_in s).lowered.names) n (omega (arith, l, counted, names_counted s)));
+        stands = λ h q. let z : ◌≡◌ {A = ℕ} 0 1 = cc in absurd (omega arith);
+      }
+
+  pub name_held : n < k → (h : rust_text_id.TextId) → text_in s h.0 ≡ (name_at (module_in s) n).text → Held (at_name n) s (rust.Ok h)
+  unfolding answer_call check after kept_in
+  name_held l h held =
+      record {
+        comes = λ t bytes reply. rw (lt-leb (length (kept_in s).lowered.names) n (omega (arith, l, counted, names_counted s)));
+        stands = λ i q. let same : h ≡ i = cc in rw (← same) (tt, sym held);
+      }
+
+-- ---- 24 and 25
+module _ (s : List ℕ) (n k : ℕ) (counted : k ≡ length (exprs_of s)) where
+  pub no_expr : k ≤ n → Held (at_reference n) s (rust.Err (record { 0 = NoSuchNumber; 1 = n }))
+  unfolding answer_call check after
+  no_expr l =
+      record {
+        comes = λ t bytes reply. rw (le-leb (length (kept_in s).lowered.exprs) n (omega (arith, l, counted, exprs_many s)));
+        stands = λ h q. let z : ◌≡◌ {A = ℕ} 0 1 = cc in absurd (omega arith);
+      }
+
+  module _ (there : n < k) where
+    is_expr : (t : Text) (bytes reply : ℕ) → own_outcome s (change_reference n t bytes reply)
+        ≡ if_reference (kept_in s).lowered (kept_answer (kept_in s)) (kept_references (kept_in s)) (kept_in s).spent (kept_moved (kept_in s)) n (reference_text (expr_at (module_in s) n)) (from_text s (change_reference n t bytes reply))
+    unfolding answer_call check kept_in
+    is_expr t bytes reply = rw (lt-leb (length (kept_in s).lowered.exprs) n (omega (arith, there, counted, exprs_many s)))
+
+    none_held : reference_text (expr_at (module_in s) n) ≡ none → Held (at_reference n) s (rust.Err (record { 0 = NotAReference; 1 = n }))
+    unfolding if_reference after
+    none_held lost =
+        record {
+          comes = λ t bytes reply. is_expr t bytes reply ∙ rw lost;
+          stands = λ h q. let z : ◌≡◌ {A = ℕ} 0 1 = cc in absurd (omega arith);
+        }
+
+    one_held : (h : rust_text_id.TextId) → reference_text (expr_at (module_in s) n) ≡ some (text_in s h.0) → Held (at_reference n) s (rust.Ok h)
+    unfolding if_reference after or_empty kept_in
+    one_held h reads =
+        record {
+          comes = λ t bytes reply. is_expr t bytes reply ∙ rw reads;
+          stands = λ i q. let same : h ≡ i = cc in rw (← same) (record { text = text_in s h.0; is = reads }, rw reads);
+        }
+
+    pub reference_held : (m : rust.Option rust_text_id.TextId) → maybe_text s m ≡ reference_text (expr_at (module_in s) n) → Held (at_reference n) s (ok_or m (record { 0 = NotAReference; 1 = n }))
+    unfolding maybe_text
+    reference_held rust.None says = none_held (sym says)
+    reference_held (rust.Some h) says = one_held h (sym says)
+
+-- ---- what a call that sets a text at a place comes to
+refuses : (p : Place) (t : Text) (bytes : ℕ) (s : List ℕ) (x : Refused) → ((reply : ℕ) → own_outcome s (call_at p t bytes reply) ≡ refusal (number_of x.0) x.1) → Judges p t bytes s (rust.Err x)
 unfolding outcome_of
-refuses c p t bytes s x h =
+refuses p t bytes s x h =
     record {
       comes = h;
       equal = λ q. let z : ◌≡◌ {A = ℕ} 0 1 = cc in absurd (omega arith);
       moves = λ n q. let z : ◌≡◌ {A = ℕ} 0 1 = cc in absurd (omega arith);
     }
 
-module _ (c : ℕ → Call) (p : Place) (t : Text) (bytes : ℕ) (s : List ℕ) (h : ℕ) (sets : Sets c p t bytes s h) (r : rust.Result Bool Refused) (judged : JudgesText s h t r) where
-  comes_to : (v : rust.Result Bool Refused) → r ≡ v → (reply : ℕ) → own_outcome s (c reply) ≡ after_text v (from_moved s (c reply))
-  comes_to v q reply = sets.own reply ∙ judged.comes (c reply) (sets.old reply) (sets.new reply) ∙ ap (λ (w : rust.Result Bool Refused). after_text w (from_moved s (c reply))) q
+module _ (p : Place) (t : Text) (bytes : ℕ) (s : List ℕ) (v : rust.Result rust_text_id.TextId Refused) (held : Held p s v) where
+  pub unheld : (x : Refused) → v ≡ rust.Err x → Judges p t bytes s (rust.Err x)
+  unfolding after
+  unheld x q = refuses p t bytes s x (λ reply. held.comes t bytes reply ∙ ap (λ (w : rust.Result rust_text_id.TextId Refused). after w (from_text s (call_at p t bytes reply))) q)
 
-  unfit : (x : Refused) → r ≡ rust.Err x → Judges c p t bytes s (rust.Err x)
-  unfolding after_text
-  unfit x q = refuses c p t bytes s x (comes_to (rust.Err x) q)
+  module _ (h : rust_text_id.TextId) (found : v ≡ rust.Ok h) (r : rust.Result Bool Refused) (judged : JudgesText s h.0 t r) where
+    stands : text_at (kept_in s).lowered p ≡ text_in s h.0
+    stands = (held.stands h found).1
 
-  equal_text : r ≡ rust.Ok false → Judges c p t bytes s (rust.Ok rust.None)
-  unfolding after_text give_moved check outcome_of
-  equal_text q =
-      record {
-        comes = λ reply. comes_to (rust.Ok false) q reply ∙ rw (moved_none (kept_in s) (c reply) (rw (sets.old reply, sets.new reply) (judged.same q)), le-ltb (buffer_of (c reply)) 0 (omega arith));
-        equal = λ _. rw sets.stands (judged.same q);
-        moves = λ n u. let z : ◌≡◌ {A = ℕ} 0 1 = cc in absurd (omega arith);
-      }
+    old : (reply : ℕ) → old_text (kept_in s).lowered (call_at p t bytes reply) ≡ text_in s h.0
+    old reply = call_old (kept_in s).lowered p t bytes reply ∙ stands
 
-  module _ (q : r ≡ rust.Ok true) (n : ℕ) (counted : n ≡ length (moved_by (kept_in s) p t)) where
-    moves_by : (reply : ℕ) → kept_moved (kept_in s) (c reply) ≡ moved_by (kept_in s) p t
-    moves_by reply =
-        moved_is (kept_in s) (c reply) p (sets.sets reply ∙ rw (sets.new reply)) (rw (sets.old reply, sets.new reply) (judged.other q).0)
-        ∙ rw (sets.new reply)
+    comes_to : (w : rust.Result Bool Refused) → r ≡ w → (reply : ℕ) → own_outcome s (call_at p t bytes reply) ≡ after w (from_moved s (call_at p t bytes reply))
+    unfolding after
+    comes_to w q reply =
+        held.comes t bytes reply
+        ∙ ap (λ (u : rust.Result rust_text_id.TextId Refused). after u (from_text s (call_at p t bytes reply))) found
+        ∙ judged.comes (call_at p t bytes reply) (old reply) (call_new p t bytes reply)
+        ∙ ap (λ (u : rust.Result Bool Refused). after u (from_moved s (call_at p t bytes reply))) q
 
-    by_moved : (reply : ℕ) → own_outcome s (c reply) ≡ check (ltb bytes (4 * n)) 34 n (accepted (moved_by (kept_in s) p t))
-    unfolding after_text give_moved
-    by_moved reply = comes_to (rust.Ok true) q reply ∙ rw (moves_by reply, sets.lent reply, counted)
+    pub unfit : (x : Refused) → r ≡ rust.Err x → Judges p t bytes s (rust.Err x)
+    unfolding after
+    unfit x q = refuses p t bytes s x (comes_to (rust.Err x) q)
 
-    other_text : (v : rust.Result (rust.Option ℕ) Refused) → v ≡ moves_within n bytes → Judges c p t bytes s v
-    unfolding check outcome_of
-    other_text v is = go (ltb bytes (4 * n)) refl
-      where
-        go : (b : Bool) → ltb bytes (4 * n) ≡ b → Judges c p t bytes s v
-        go true b = rw (is, b) (refuses c p t bytes s (record { 0 = MovedShort; 1 = n }) (λ reply. by_moved reply ∙ rw b))
-        go false b =
-            rw (is, b)
-            (record {
-              comes = λ reply. by_moved reply ∙ rw b;
-              equal = λ u. let z : ◌≡◌ {A = ℕ} 0 1 = cc in absurd (omega arith);
-              moves = λ m u.
-                  let same : n ≡ m = cc in
-                  rw (← same)
-                  (record {
-                    other = rw sets.stands (judged.other q).0;
-                    room = (judged.other q).1;
-                    counted = counted;
-                    fits = ltb-false bytes (4 * n) b;
-                  });
-            })
-
--- ---- of a Reference
-pub text_read_lem : (s : List ℕ) (n : ℕ) (m : rust.Option rust_text_id.TextId) → maybe_text s m ≡ reference_text (expr_at (module_in s) n) → (h : ℕ) → m ≡ rust.Some (record { 0 = h })
-    → reference_text (expr_at (module_in s) n) ≡ some (text_in s h)
-unfolding maybe_text
-text_read_lem s n m says h q = sym says ∙ ap (maybe_text s) q
-
-pub refers_to : (s : List ℕ) (n : ℕ) (m : rust.Option rust_text_id.TextId) → maybe_text s m ≡ reference_text (expr_at (module_in s) n) → (h : ℕ) → m ≡ rust.Some (record { 0 = h }) → Refers n s
-refers_to s n m says h q = record { text = text_in s h; is = text_read_lem s n m says h q }
-
-module _ (s : List ℕ) (n : ℕ) (t : Text) (bytes k : ℕ) (counted : k ≡ length (exprs_of s)) where
-  pub no_expr : k ≤ n → Judges (change_reference n t bytes) (at_reference n) t bytes s (rust.Err (record { 0 = NoSuchNumber; 1 = n }))
-  unfolding answer_call check
-  no_expr l = refuses _ _ _ _ s (record { 0 = NoSuchNumber; 1 = n }) (λ reply. rw (le-leb (length (kept_in s).lowered.exprs) n (omega (arith, l, counted, exprs_many s))))
-
-  module _ (there : n < k) (m : rust.Option rust_text_id.TextId) (says : maybe_text s m ≡ reference_text (expr_at (module_in s) n)) where
-    is_expr : (reply : ℕ) → own_outcome s (change_reference n t bytes reply)
-        ≡ if_reference (kept_in s).lowered (kept_answer (kept_in s)) (kept_references (kept_in s)) (kept_in s).spent (kept_moved (kept_in s)) n (reference_text (expr_at (module_in s) n)) (from_text s (change_reference n t bytes reply))
-    unfolding answer_call check kept_in
-    is_expr reply = rw (lt-leb (length (kept_in s).lowered.exprs) n (omega (arith, there, counted, exprs_many s)))
-
-    pub no_reference : m ≡ rust.None → Judges (change_reference n t bytes) (at_reference n) t bytes s (rust.Err (record { 0 = NotAReference; 1 = n }))
-    unfolding if_reference maybe_text
-    no_reference q =
-        let lost : reference_text (expr_at (module_in s) n) ≡ none = sym says ∙ ap (maybe_text s) q in
-        refuses _ _ _ _ s (record { 0 = NotAReference; 1 = n }) (λ reply. is_expr reply ∙ rw lost)
-
-    module _ (h : ℕ) (q : m ≡ rust.Some (record { 0 = h })) where
-      sets_reference : Sets (change_reference n t bytes) (at_reference n) t bytes s h
-      unfolding old_text new_text buffer_of kept_with if_reference or_empty kept_in
-      sets_reference =
-          let reads = text_read_lem s n m says h q in
-          record {
-            own = λ reply. is_expr reply ∙ rw reads;
-            old = λ reply. rw reads;
-            new = λ reply. refl;
-            lent = λ reply. refl;
-            sets = λ reply. refl;
-            stands = rw reads;
-          }
-
-      module _ (r : rust.Result Bool Refused) (judged : JudgesText s h t r) where
-        pub reference_unfit : (x : Refused) → r ≡ rust.Err x → Judges (change_reference n t bytes) (at_reference n) t bytes s (rust.Err x)
-        reference_unfit = unfit _ _ _ _ s h sets_reference r judged
-
-        pub reference_equal : r ≡ rust.Ok false → Judges (change_reference n t bytes) (at_reference n) t bytes s (rust.Ok rust.None)
-        reference_equal = equal_text _ _ _ _ s h sets_reference r judged
-
-        pub reference_other : r ≡ rust.Ok true → (i : ℕ) → i ≡ length (moved_by (kept_in s) (at_reference n) t)
-            → (v : rust.Result (rust.Option ℕ) Refused) → v ≡ moves_within i bytes → Judges (change_reference n t bytes) (at_reference n) t bytes s v
-        reference_other = other_text _ _ _ _ s h sets_reference r judged
-
--- ---- of a name
-module _ (s : List ℕ) (n : ℕ) (t : Text) (bytes k : ℕ) (counted : k ≡ length (names_of s)) where
-  pub no_name : k ≤ n → Judges (change_name n t bytes) (at_name n) t bytes s (rust.Err (record { 0 = NoSuchNumber; 1 = n }))
-  unfolding answer_call check
-  no_name l = refuses _ _ _ _ s (record { 0 = NoSuchNumber; 1 = n }) (λ reply. rw (le-leb (length (kept_in s).lowered.names) n (omega (arith, l, counted, names_counted s))))
-
-  module _ (there : n < k) (h : ℕ) (held : text_in s h ≡ (name_at (module_in s) n).text) where
-    sets_name : Sets (change_name n t bytes) (at_name n) t bytes s h
-    unfolding answer_call check old_text new_text buffer_of kept_with kept_in
-    sets_name =
+    pub equal_text : r ≡ rust.Ok false → Judges p t bytes s (rust.Ok rust.None)
+    unfolding after give_moved check outcome_of
+    equal_text q =
         record {
-          own = λ reply. rw (lt-leb (length (kept_in s).lowered.names) n (omega (arith, there, counted, names_counted s)));
-          old = λ reply. sym held;
-          new = λ reply. refl;
-          lent = λ reply. refl;
-          sets = λ reply. refl;
-          stands = sym held;
+          comes = λ reply. comes_to (rust.Ok false) q reply ∙ rw (moved_none (kept_in s) (call_at p t bytes reply) (rw (old reply, call_new p t bytes reply) (judged.same q)), le-ltb (buffer_of (call_at p t bytes reply)) 0 (omega arith));
+          equal = λ _. rw stands (judged.same q);
+          moves = λ n u. let z : ◌≡◌ {A = ℕ} 0 1 = cc in absurd (omega arith);
         }
 
-    module _ (r : rust.Result Bool Refused) (judged : JudgesText s h t r) where
-      pub name_unfit : (x : Refused) → r ≡ rust.Err x → Judges (change_name n t bytes) (at_name n) t bytes s (rust.Err x)
-      name_unfit = unfit _ _ _ _ s h sets_name r judged
+    module _ (q : r ≡ rust.Ok true) (n : ℕ) (counted : n ≡ length (moved_by (kept_in s) p t)) (room : rust.Result ℕ Refused) (fits : room ≡ in_bytes n bytes MovedShort) where
+      moves_by : (reply : ℕ) → kept_moved (kept_in s) (call_at p t bytes reply) ≡ moved_by (kept_in s) p t
+      moves_by reply =
+          moved_is (kept_in s) (call_at p t bytes reply) p (call_sets (kept_in s) p t bytes reply) (rw (old reply, call_new p t bytes reply) (judged.other q).0)
+          ∙ rw (call_new p t bytes reply)
 
-      pub name_equal : r ≡ rust.Ok false → Judges (change_name n t bytes) (at_name n) t bytes s (rust.Ok rust.None)
-      name_equal = equal_text _ _ _ _ s h sets_name r judged
+      by_moved : (reply : ℕ) → own_outcome s (call_at p t bytes reply) ≡ check (ltb bytes (4 * n)) 34 n (accepted (moved_by (kept_in s) p t))
+      unfolding after give_moved
+      by_moved reply = comes_to (rust.Ok true) q reply ∙ rw (moves_by reply, call_lent p t bytes reply, counted)
 
-      pub name_other : r ≡ rust.Ok true → (i : ℕ) → i ≡ length (moved_by (kept_in s) (at_name n) t)
-          → (v : rust.Result (rust.Option ℕ) Refused) → v ≡ moves_within i bytes → Judges (change_name n t bytes) (at_name n) t bytes s v
-      name_other = other_text _ _ _ _ s h sets_name r judged
+      pub no_room : (x : Refused) → room ≡ rust.Err x → Judges p t bytes s (rust.Err x)
+      unfolding check
+      no_room x u = go (ltb bytes (4 * n)) refl
+        where
+          go : (b : Bool) → ltb bytes (4 * n) ≡ b → Judges p t bytes s (rust.Err x)
+          go true b =
+              let told : room ≡ rust.Err (record { 0 = MovedShort; 1 = n }) = fits ∙ rw b in
+              let same : ◌≡◌ {A = Refused} (record { 0 = MovedShort; 1 = n }) x = cc in
+              rw (← same) (refuses p t bytes s (record { 0 = MovedShort; 1 = n }) (λ reply. by_moved reply ∙ rw b))
+          go false b =
+              let told : room ≡ rust.Ok n = fits ∙ rw b in
+              let z : ◌≡◌ {A = ℕ} 0 1 = cc in
+              absurd (omega arith)
+
+      pub other_text : (m : ℕ) → room ≡ rust.Ok m → Judges p t bytes s (rust.Ok (rust.Some m))
+      unfolding check outcome_of
+      other_text m u = go (ltb bytes (4 * n)) refl
+        where
+          go : (b : Bool) → ltb bytes (4 * n) ≡ b → Judges p t bytes s (rust.Ok (rust.Some m))
+          go true b =
+              let told : room ≡ rust.Err (record { 0 = MovedShort; 1 = n }) = fits ∙ rw b in
+              let z : ◌≡◌ {A = ℕ} 0 1 = cc in
+              absurd (omega arith)
+          go false b =
+              let told : room ≡ rust.Ok n = fits ∙ rw b in
+              let same : n ≡ m = cc in
+              rw (← same)
+              (record {
+                comes = λ reply. by_moved reply ∙ rw b;
+                equal = λ w. let z : ◌≡◌ {A = ℕ} 0 1 = cc in absurd (omega arith);
+                moves = λ i w.
+                    let as_many : n ≡ i = cc in
+                    rw (← as_many)
+                    (record {
+                      stands = (held.stands h found).0;
+                      other = rw stands (judged.other q).0;
+                      room = (judged.other q).1;
+                      counted = counted;
+                      fits = ltb-false bytes (4 * n) b;
+                    });
+              })

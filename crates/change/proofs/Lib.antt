@@ -1,4 +1,3 @@
 pub mod JudgeLaws
 pub mod SetLaws
 pub mod MovesLaws
-pub mod CallLaws

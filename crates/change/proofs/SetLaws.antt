@@ -1,34 +1,30 @@
 -- A change of a fit store, from what was judged of it and what was done. Assumes nothing.
 use mathlib.Core.Path.{◌≡◌, refl, sym, ap, ◌∙◌}
-use mathlib.Core.Bool.{Bool, true, false}
+use mathlib.Core.Bool.{true, false}
 use mathlib.Core.List.{List, []}
-use mathlib.Core.Option.{Option, none, some}
 use Prim.Native.Nat.{ℕ, ◌≤◌}
 use native.Mathlib.Omega.{arith}
 use lib.ListN.{length}
-use lib.Dec.{leb}
 use Rattle.words.specs.Equality.{equalb}
 use Rattle.words.proofs.EqualityLaws.{equalb_false}
 use Rattle.spec.specs.Basics.{Text}
-use Rattle.spec.specs.Scopes.{expr_at}
-use Rattle.spec.specs.Answer.{reference_text}
-use Rattle.spec.specs.Calls.{fit, Call, change_reference, refusal, accepted, reply_bytes, check, reply_of, Place, at_reference, text_at, old_text, new_text, if_reference, answer_call, is_accepted}
-use Rattle.spec.specs.Kept.{moved_by, changed_to, kept_with, kept_outcome, kept_after}
+use Rattle.spec.specs.Calls.{fit, Call, refusal, accepted, reply_bytes, Place, at_name, at_reference, text_at, old_text, new_text, is_accepted}
+use Rattle.spec.specs.Kept.{moved_by, kept_outcome, kept_after}
 use Rattle.layout.specs.Rows.{set_all}
 use Rattle.layout.specs.Keeps.{kept_in}
 use Rattle.soundness.specs.Sound.{condition_of}
 use Rattle.soundness.proofs.ConditionLaws.{fit_sound}
-use Rattle.moving.specs.Moving.{Refers}
+use Rattle.moving.specs.Places.{Counted}
 use Rattle.put_text.specs.Changed.{Changeable, Changes}
 use Rattle.put_text.proofs.ConditionLaws.{changed_sound}
 use Rattle.replies.specs.Replies.{list_of, buffer_after, Told, ToldMoved}
-use Rattle.requests.specs.Requests.{outcome_in, own_outcome, Leaves, Changed}
+use Rattle.requests.specs.Requests.{outcome_in, Leaves, Changed}
 use Rattle.requests.proofs.StateLaws.{state_passed, equal_leaves, told_changed, refused_changed}
-use Rattle.change.specs.Judged.{outcome_of, Settable, Judges}
+use Rattle.change.specs.Judged.{call_at, outcome_of, Settable, Judges}
 use Rattle.refusals.specs.Numbers.{number_of}
 use Rattle.replies.specs.declared.Refused.{Refused}
 use Rattle.std.specs.Prelude as rust
-use Rattle.change.proofs.JudgeLaws.{changed_is}
+use Rattle.change.proofs.JudgeLaws.{changed_is, call_new, call_old, call_reply, call_sets}
 
 -- a text that may be set, in a buffer of so many bytes
 pub changeable : (p : Place) (t : Text) (n : ℕ) (s b : List ℕ) → condition_of s ≡ fit → Settable p t (length b) n s → Changeable p t s b
@@ -40,29 +36,23 @@ changeable p t n s b fits set =
       fits = let counted = set.counted in let l = set.fits in omega arith;
     }
 
--- what is set as a Reference's is one
-pub refers_settable : (s : List ℕ) (number : ℕ) (t : Text) (bytes : ℕ) {v : rust.Result (rust.Option ℕ) Refused} → Judges (change_reference number t bytes) (at_reference number) t bytes s v
-    → (n : ℕ) → v ≡ rust.Ok (rust.Some n) → Refers number s
-unfolding outcome_of answer_call check if_reference kept_in
-refers_settable s number t bytes judged n q =
-    go (leb (length (kept_in s).lowered.exprs) number) refl (reference_text (expr_at (kept_in s).lowered number)) refl (judged.comes 0 ∙ rw q)
-  where
-    go : (b : Bool) → leb (length (kept_in s).lowered.exprs) number ≡ b → (o : Option Text) → reference_text (expr_at (kept_in s).lowered number) ≡ o
-        → own_outcome s (change_reference number t bytes 0) ≡ accepted (moved_by (kept_in s) (at_reference number) t) → Refers number s
-    go true past o reads is = let z : refusal 24 number ≡ accepted (moved_by (kept_in s) (at_reference number) t) = rw past at is in absurd (let w : ◌≡◌ {A = ℕ} 0 1 = cc in omega arith)
-    go false there none reads is = let z : refusal 25 number ≡ accepted (moved_by (kept_in s) (at_reference number) t) = rw (there, reads) at is in absurd (let w : ◌≡◌ {A = ℕ} 0 1 = cc in omega arith)
-    go false there (some u) reads is = record { text = u; is = reads }
+-- what is known of a place where a text may be set is what setting it takes
+pub counted_settable : (p : Place) (t : Text) (bytes n : ℕ) (s : List ℕ) → Settable p t bytes n s → Counted p t n s
+counted_settable (at_name x) t bytes n s set = set.counted
+counted_settable (at_reference e) t bytes n s set = set.stands
 
-module _ (c : ℕ → Call) (place : Place) (text : Text) (s b p : List ℕ) (fits : condition_of s ≡ fit) (long : reply_bytes ≤ length p)
-    (lent : reply_of (c (length p)) ≡ length p)
-    (old : old_text (kept_in s).lowered (c (length p)) ≡ text_at (kept_in s).lowered place) (new : new_text (c (length p)) ≡ text)
-    (sets : kept_with (kept_in s) (c (length p)) ≡ changed_to (kept_in s) place text)
-    (v : rust.Result (rust.Option ℕ) Refused) (judged : Judges c place text (length b) s v) where
+module _ (place : Place) (text : Text) (s b p : List ℕ) (fits : condition_of s ≡ fit) (long : reply_bytes ≤ length p) (v : rust.Result (rust.Option ℕ) Refused) (judged : Judges place text (length b) s v) where
   abbrev this : Call
-  this = c (length p)
+  this = call_at place text (length b) (length p)
+
+  new : new_text this ≡ text
+  new = call_new place text (length b) (length p)
+
+  old : old_text (kept_in s).lowered this ≡ text_at (kept_in s).lowered place
+  old = call_old (kept_in s).lowered place text (length b) (length p)
 
   comes_to : (w : rust.Result (rust.Option ℕ) Refused) → v ≡ w → outcome_in s this ≡ outcome_of w (moved_by (kept_in s) place text)
-  comes_to w q = state_passed s this fits (rw lent long) ∙ judged.comes (length p) ∙ ap (λ (u : rust.Result (rust.Option ℕ) Refused). outcome_of u (moved_by (kept_in s) place text)) q
+  comes_to w q = state_passed s this fits (rw (call_reply place text (length b) (length p)) long) ∙ judged.comes (length p) ∙ ap (λ (u : rust.Result (rust.Option ℕ) Refused). outcome_of u (moved_by (kept_in s) place text)) q
 
   pub refused : (x : Refused) → v ≡ rust.Err x → (r : ℕ) (p' : List ℕ) → Told (refusal (number_of x.0) x.1) p r p' → Changed this s b p r s b p'
   unfolding outcome_of
@@ -82,7 +72,7 @@ module _ (c : ℕ → Call) (place : Place) (text : Text) (s b p : List ℕ) (fi
     change_leaves =
         let other : equalb (old_text (kept_in s).lowered this) (new_text this) ≡ false = rw (old, new) (judged.moves n q).other in
         record {
-          kept = does.does ∙ sym (rw is_accepted_lem (changed_is (kept_in s) this place (sets ∙ rw new) other ∙ rw new));
+          kept = does.does ∙ sym (rw is_accepted_lem (changed_is (kept_in s) this place (call_sets (kept_in s) place text (length b) (length p)) other ∙ rw new));
           refused = λ h. let z : true ≡ false = rw is_accepted_lem at h in absurd (let w : ◌≡◌ {A = ℕ} 0 1 = cc in omega arith);
           equal = λ e. absurd (equalb_false (old_text (kept_in s).lowered this) (new_text this) other e);
           sound = changed_sound does;

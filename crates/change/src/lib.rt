@@ -7,37 +7,44 @@
 ghost use Rattle.std.specs.Prelude.{◌≡◌, ◌≤◌, length};
 ghost use Rattle.spec.specs.Calls.{fit, reply_bytes, change_reference, change_name};
 ghost use Rattle.soundness.specs.Sound.{condition_of};
+ghost use Rattle.moving.specs.Places.{place_of};
 ghost use Rattle.requests.specs.Requests.{Changed};
+ghost use Rattle.change.specs.Judged.{call_at};
 
 mod judging;
 mod new_text;
 
-use judging::{judge_name, judge_reference};
+use judging::judge;
 use module::{ExprId, NameId};
-use put_text::{put_name_text, put_reference_text};
-use replies::accept;
+use moving::Place;
+use put_text::put_text;
+use replies::tell_count;
 use requests::begin;
 
 // In a fit store. An equal text changes and moves nothing.
-fn set_reference(
-    store: &mut [u8],
-    number: u32,
-    text: &[u8],
-    moved: &mut [u8],
-    reply: &mut [u8],
-) -> u32
+fn set_text(store: &mut [u8], place: Place, text: &[u8], moved: &mut [u8], reply: &mut [u8]) -> u32
     requires { (condition_of store.old ≡ fit) × (reply_bytes ≤ length reply.old) }
-    ensures { Changed (change_reference number text.now (length moved.old) (length reply.old)) store.old moved.old reply.old result store.new moved.new reply.new }
+    ensures { Changed (call_at (place_of place) text.now (length moved.old) (length reply.old)) store.old moved.old reply.old result store.new moved.new reply.new }
 {
-    match judge_reference(store, number, text, moved.len()) {
+    match judge(store, place, text, moved.len()) {
         Err(refused) => refused.tell(reply),
         Ok(judged) => match judged {
-            None => accept(reply, 0),
+            None => tell_count(reply, 0),
             Some(count) => {
-                put_reference_text(store, ExprId(number), text, moved);
-                accept(reply, count)
+                put_text(store, place, text, count, moved);
+                tell_count(reply, count)
             }
         },
+    }
+}
+
+// Sets the text at a place.
+fn change(store: &mut [u8], place: Place, text: &[u8], moved: &mut [u8], reply: &mut [u8]) -> u32
+    ensures { Changed (call_at (place_of place) text.now (length moved.old) (length reply.old)) store.old moved.old reply.old result store.new moved.new reply.new }
+{
+    match begin(store, reply) {
+        Ok(()) => set_text(store, place, text, moved, reply),
+        Err(why) => why.number(),
     }
 }
 
@@ -51,27 +58,7 @@ pub fn change_reference(
 ) -> u32
     ensures { Changed (change_reference number text.now (length moved.old) (length reply.old)) store.old moved.old reply.old result store.new moved.new reply.new }
 {
-    match begin(store, reply) {
-        Ok(()) => set_reference(store, number, text, moved, reply),
-        Err(why) => why.number(),
-    }
-}
-
-// In a fit store. An equal text changes and moves nothing.
-fn set_name(store: &mut [u8], number: u32, text: &[u8], moved: &mut [u8], reply: &mut [u8]) -> u32
-    requires { (condition_of store.old ≡ fit) × (reply_bytes ≤ length reply.old) }
-    ensures { Changed (change_name number text.now (length moved.old) (length reply.old)) store.old moved.old reply.old result store.new moved.new reply.new }
-{
-    match judge_name(store, number, text, moved.len()) {
-        Err(refused) => refused.tell(reply),
-        Ok(judged) => match judged {
-            None => accept(reply, 0),
-            Some(count) => {
-                put_name_text(store, NameId(number), text, count, moved);
-                accept(reply, count)
-            }
-        },
-    }
+    change(store, Place::Reference(ExprId(number)), text, moved, reply)
 }
 
 // Sets the text of a name.
@@ -84,8 +71,5 @@ pub fn change_name(
 ) -> u32
     ensures { Changed (change_name number text.now (length moved.old) (length reply.old)) store.old moved.old reply.old result store.new moved.new reply.new }
 {
-    match begin(store, reply) {
-        Ok(()) => set_name(store, number, text, moved, reply),
-        Err(why) => why.number(),
-    }
+    change(store, Place::Name(NameId(number)), text, moved, reply)
 }

@@ -6,7 +6,6 @@ ghost use Rattle.change.specs.Judged.{JudgesText};
 
 use kept::spent;
 use layout::tables::ROOM_LIMIT;
-use layout::wide;
 use module::TextId;
 use refusals::Refusal;
 use replies::Refused;
@@ -21,7 +20,7 @@ fn lacks_room(store: &[u8], text: &[u8]) -> bool
     requires { Long store.now × (length text.now ≤ 255) }
     ensures { result ≡ ltb room_limit ((kept_in store.now).spent + length text.now) }
 {
-    ROOM < wide(spent(store)) + text.len()
+    ROOM < spent(store) as usize + text.len()
 }
 
 // Whether the new text is another than the one that is there: 8, then 27, which an equal text never meets.

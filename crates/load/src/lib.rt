@@ -12,7 +12,7 @@ use layout::tables::STORE_BYTES;
 use lower::lower;
 use nameres::keep_module;
 use refusals::Refusal;
-use replies::{REPLY_BYTES, Refused, accept, refuse};
+use replies::{REPLY_BYTES, Refused, refuse, tell_count};
 use store::clear;
 
 // The nodes of an accepted sheet, then what is made of them. All counts are 0 first, so that nothing of an earlier load
@@ -48,7 +48,7 @@ pub fn load(sheet: &[u8], store: &mut [u8], reply: &mut [u8]) -> u32
         }
         Ok(_) => {
             fill(sheet, store);
-            accept(reply, 0)
+            tell_count(reply, 0)
         }
     }
 }

@@ -1,20 +1,18 @@
 // What a new text of a name moves.
-ghost use Rattle.std.specs.Prelude.{◌≡◌, [], ◌+◌, ◌*◌, ◌≤◌, length};
+ghost use Rattle.std.specs.Prelude.{◌≡◌, [], length};
 ghost use Rattle.spec.specs.Calls.{at_name};
 ghost use Rattle.spec.specs.Moved.{cons_if};
 ghost use Rattle.spec.specs.Kept.{moved_by};
 ghost use Rattle.layout.specs.Layout.{Long};
-ghost use Rattle.layout.specs.Keeps.{scopes_in, kept_in};
-ghost use Rattle.nameres.specs.Resolution.{Nameable};
+ghost use Rattle.layout.specs.Keeps.{kept_in};
 ghost use Rattle.moving.specs.Moving.{differs, About, MovesTo, Fits, MovesOne, MovesAnswers, Movable, Moves};
 
 use crate::moved::unless_kept;
 use crate::named::{Named, find_name, may_move};
 use answer::Answer;
 use kept::set_answer;
-use layout::wide;
 use listing::list_references;
-use module::{ExprId, NameId, TextId};
+use module::{ExprId, NameId};
 use resolve::resolve_renamed;
 use rows::{expr_count, reference_text};
 use words::put32;
@@ -49,7 +47,7 @@ fn count_one(store: &[u8], e: ExprId, x: Named, new: &[u8]) -> u32
 }
 
 // How many answers it moves; nothing is written.
-pub fn count_moved_by_name(store: &[u8], x: NameId, new: &[u8]) -> u32
+pub(crate) fn count_moved_by_name(store: &[u8], x: NameId, new: &[u8]) -> u32
     requires { Long store.now }
     ensures { result ≡ length (moved_by (kept_in store.now) (at_name x.0) new.now) }
 {
@@ -92,7 +90,7 @@ fn move_answers(store: &mut [u8], x: NameId, new: &[u8], moved: &mut [u8])
 }
 
 // As many as were counted; the references of names are listed anew only if there are any.
-pub fn move_by_name(store: &mut [u8], x: NameId, new: &[u8], count: u32, moved: &mut [u8])
+pub(crate) fn move_by_name(store: &mut [u8], x: NameId, new: &[u8], count: u32, moved: &mut [u8])
     requires { Long store.old × (Movable (at_name x.0) new.now store.old moved.old × (count ≡ length (moved_by (kept_in store.old) (at_name x.0) new.now))) }
     ensures { Moves (at_name x.0) new.now store.old moved.old store.new moved.new }
 {

@@ -25,7 +25,7 @@ fn moved_by_reference(store: &[u8], e: ExprId, new: &[u8]) -> Option<Answer>
 }
 
 // How many answers it moves; nothing is written.
-pub fn count_moved_by_reference(store: &[u8], e: ExprId, new: &[u8]) -> u32
+pub(crate) fn count_moved_by_reference(store: &[u8], e: ExprId, new: &[u8]) -> u32
     requires { Long store.now × Refers e.0 store.now }
     ensures { result ≡ length (moved_by (kept_in store.now) (at_reference e.0) new.now) }
 {
@@ -36,7 +36,7 @@ pub fn count_moved_by_reference(store: &[u8], e: ExprId, new: &[u8]) -> u32
 }
 
 // Moves it and lists it; the references of names are listed anew only then.
-pub fn move_by_reference(store: &mut [u8], e: ExprId, new: &[u8], moved: &mut [u8])
+pub(crate) fn move_by_reference(store: &mut [u8], e: ExprId, new: &[u8], moved: &mut [u8])
     requires { Long store.old × (Refers e.0 store.old × Movable (at_reference e.0) new.now store.old moved.old) }
     ensures { Moves (at_reference e.0) new.now store.old moved.old store.new moved.new }
 {

@@ -9,7 +9,7 @@ mod by_name;
 mod by_reference;
 mod moved;
 mod named;
+mod place;
 mod same;
 
-pub use by_name::{count_moved_by_name, move_by_name};
-pub use by_reference::{count_moved_by_reference, move_by_reference};
+pub use place::{Place, count_moved, move_answers_of};

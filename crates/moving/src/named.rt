@@ -24,7 +24,7 @@ pub struct Named {
     pub scope: Option<ScopeId>,
 }
 
-pub fn find_name(store: &[u8], x: NameId) -> Named
+pub(crate) fn find_name(store: &[u8], x: NameId) -> Named
     requires { Long store.now }
     ensures { About store.now result × (result.name ≡ x) }
 {
@@ -52,7 +52,7 @@ fn bears_either(store: &[u8], e: ExprId, old: TextId, new: &[u8]) -> bool
 }
 
 // Few bear either text, so that the scopes around the others are not looked at.
-pub fn may_move(store: &[u8], e: ExprId, x: Named, new: &[u8]) -> bool
+pub(crate) fn may_move(store: &[u8], e: ExprId, x: Named, new: &[u8]) -> bool
     requires { Long store.now × About store.now x }
     ensures { result ≡ may_move (module_in store.now) (scopes_in store.now) (at_name x.name.0) new.now e.0 }
 {

@@ -34,7 +34,8 @@ use Rattle.nameres.proofs.SoundNames.{kind_wider, kind_at}
 use Rattle.nameres.proofs.ResolveLaws.{resolving_scopes}
 use Rattle.nameres.proofs.StepLaws.{module_kept}
 use Rattle.moving.specs.Moving.{Refers, Movable, all_moved, moved, Moves}
-use Rattle.put_text.specs.Changed.{Spends, Changeable, Changes}
+use Rattle.moving.specs.Places.{Counted}
+use Rattle.put_text.specs.Changed.{SetsText, Spends, Changeable, Changes}
 use Rattle.put_text.proofs.RowChanges.{renamed_wrote, renamed_kept, renamed_module, reworded_wrote, reworded_kept, reworded_module}
 
 -- ---- the scopes of a sound store, as moving takes them
@@ -220,7 +221,7 @@ module _ (s0 b s1 c s2 s3 s4 : List ℕ) (x k : ℕ) (bytes : Text) (may : Chang
       let m : module_in s2 ≡ module_in s0 = sym (module_kept s2) ∙ ap (λ (q : Kept). q.lowered) same ∙ module_kept s1 ∙ moved_module (at_name x) bytes s0 b s1 c may.fine moves in
       renamed_kept x k s2 s3 put ∙ rw (e, m, same)
 
-  pub name_changed : Changes (at_name x) bytes s0 b s4 c
+  name_changed : Changes (at_name x) bytes s0 b s4 c
   name_changed =
       changes (at_name x) bytes s0 b s1 c s2 s3 s4 k may moves added (wrote_module (omega arith) (omega arith) (renamed_wrote x k s2 s3 put)) (renamed_module x k s2 s3 put) name_row_lem spends
       (four_wrote again_inside moves.wrote texts_inside added.wrote names_inside (renamed_wrote x k s2 s3 put) spent_inside spends.wrote)
@@ -234,10 +235,15 @@ module _ (s0 b s1 c s2 s3 s4 : List ℕ) (e k : ℕ) (bytes : Text) (refers : Re
       let m : module_in s2 ≡ module_in s0 = sym (module_kept s2) ∙ ap (λ (z : Kept). z.lowered) same ∙ module_kept s1 ∙ moved_module (at_reference e) bytes s0 b s1 c may.fine moves in
       reworded_kept e k s2 s3 put ∙ rw (q, m, same, refers.is)
 
-  pub reference_changed : Changes (at_reference e) bytes s0 b s4 c
+  reference_changed : Changes (at_reference e) bytes s0 b s4 c
   reference_changed =
       changes (at_reference e) bytes s0 b s1 c s2 s3 s4 k may moves added (wrote_module (omega arith) (omega arith) (reworded_wrote e k s2 s3 put)) (reworded_module e k s2 s3 put) word_row spends
       (four_wrote again_inside moves.wrote texts_inside added.wrote words_inside (reworded_wrote e k s2 s3 put) spent_inside spends.wrote)
+
+-- ---- of either
+pub text_changed : (p : Place) (s0 b s1 c s2 s3 s4 : List ℕ) (k n : ℕ) (bytes : Text) → Counted p bytes n s0 → Changeable p bytes s0 b → Moves p bytes s0 b s1 c → Texted bytes s1 k s2 → SetsText p k s2 s3 → Spends (length bytes) s3 s4 → Changes p bytes s0 b s4 c
+text_changed (at_name x) s0 b s1 c s2 s3 s4 k n bytes h = name_changed s0 b s1 c s2 s3 s4 x k bytes
+text_changed (at_reference e) s0 b s1 c s2 s3 s4 k n bytes h = reference_changed s0 b s1 c s2 s3 s4 e k bytes h
 
 -- ---- the room
 module _ (s : List ℕ) (n before : ℕ) (b : before ≡ (kept_in s).spent) where
@@ -249,5 +255,5 @@ module _ (s : List ℕ) (n before : ℕ) (b : before ≡ (kept_in s).spent) wher
         does = λ l. ⊎_elim (λ z. absurd (omega (arith, b))) (λ z. absurd (omega arith)) o;
       }
 
-  pub spends_more : (t : List ℕ) (v : ℕ) → v ≡ n → Spent (before + v) s t → Spends n s t
-  spends_more t v e p = record { wrote = p.wrote; still = p.still; does = λ l. p.does ∙ rw (b, e) }
+  pub spends_more : (t : List ℕ) → Spent (before + n) s t → Spends n s t
+  spends_more t p = record { wrote = p.wrote; still = p.still; does = λ l. p.does ∙ rw b }

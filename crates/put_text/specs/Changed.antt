@@ -2,7 +2,7 @@
 use Rattle.std.specs.Prelude.{◌≡◌, true, false, List, ℕ, ◌+◌, ◌*◌, ◌≤◌, length}
 use Rattle.words.specs.Equality.{equalb}
 use Rattle.spec.specs.Basics.{Text}
-use Rattle.spec.specs.Calls.{Place, text_at}
+use Rattle.spec.specs.Calls.{Place, at_name, at_reference, text_at}
 use Rattle.spec.specs.Kept.{moved_by, changed_to}
 use Rattle.layout.specs.Layout.{room_limit}
 use Rattle.layout.specs.Rows.{set_all}
@@ -10,6 +10,12 @@ use Rattle.layout.specs.Changes.{Wrote, Still}
 use Rattle.layout.specs.Regions.{spending, changing}
 use Rattle.layout.specs.Keeps.{kept_in}
 use Rattle.soundness.specs.Sound.{sound}
+use Rattle.store.specs.TextChanges.{Renamed, Reworded}
+
+-- The row of the place has the text of the number k.
+abbrev pub SetsText : Place → ℕ → List ℕ → List ℕ → Type 0
+SetsText (at_name x) k s t = Renamed x k s t
+SetsText (at_reference e) k s t = Reworded e k s t
 
 -- So much more of the change room is spent, where there is as much, and nothing else is another.
 pub record Spends (n : ℕ) (s t : List ℕ) : Type 0 where

@@ -2,30 +2,18 @@
 // spent. Whether a change may be made is its caller's to check.
 #![tactic(auto)]
 
-ghost use Rattle.std.specs.Prelude.{◌≡◌, ◌≤◌, length};
-ghost use Rattle.spec.specs.Calls.{at_name, at_reference};
-ghost use Rattle.spec.specs.Kept.{moved_by};
-ghost use Rattle.layout.specs.Layout.{room_limit, Long};
-ghost use Rattle.layout.specs.Keeps.{kept_in};
-ghost use Rattle.moving.specs.Moving.{Refers};
-ghost use Rattle.put_text.specs.Changed.{Spends, Changeable, Changes};
+ghost use Rattle.layout.specs.Layout.{Long};
+ghost use Rattle.moving.specs.Places.{place_of, Counted};
+ghost use Rattle.put_text.specs.Changed.{SetsText, Spends, Changeable, Changes};
 
 use kept::{set_spent, spent};
 use layout::tables::ROOM_LIMIT;
-use module::{ExprId, NameId};
-use moving::{move_by_name, move_by_reference};
+use module::TextId;
+use moving::{Place, move_answers_of};
 use store::{set_name_text, set_reference_text};
 use texts::add_text;
 
 const ROOM: usize = ROOM_LIMIT as usize;
-
-// A text's length, which is known to fit.
-fn short(n: usize) -> u32
-    requires { n ≤ room_limit }
-    ensures { result ≡ n }
-{
-    n as u32
-}
 
 // So much more of the change room is spent; nothing where that is more than there is in all.
 fn spend(store: &mut [u8], n: usize)
@@ -39,27 +27,27 @@ fn spend(store: &mut [u8], n: usize)
     if ROOM < n {
         return;
     }
-    set_spent(store, before + short(n));
+    set_spent(store, before + n as u32);
+}
+
+// The row of a name or of a Reference gets a text that is stored.
+fn set_text(store: &mut [u8], place: Place, t: TextId)
+    requires { Long store.old }
+    ensures { SetsText (place_of place) t.0 store.old store.new }
+{
+    match place {
+        Place::Name(x) => set_name_text(store, x, t),
+        Place::Reference(e) => set_reference_text(store, e, t),
+    }
 }
 
 // What the text moves is moved as if it were set; then it is.
-pub fn put_name_text(store: &mut [u8], x: NameId, text: &[u8], count: u32, moved: &mut [u8])
-    requires { Long store.old × (Changeable (at_name x.0) text.now store.old moved.old × (count ≡ length (moved_by (kept_in store.old) (at_name x.0) text.now))) }
-    ensures { Changes (at_name x.0) text.now store.old moved.old store.new moved.new }
+pub fn put_text(store: &mut [u8], place: Place, text: &[u8], count: u32, moved: &mut [u8])
+    requires { Long store.old × (Changeable (place_of place) text.now store.old moved.old × Counted (place_of place) text.now count store.old) }
+    ensures { Changes (place_of place) text.now store.old moved.old store.new moved.new }
 {
-    move_by_name(store, x, text, count, moved);
-    let new = add_text(store, text);
-    set_name_text(store, x, new);
-    spend(store, text.len());
-}
-
-// The same of a Reference.
-pub fn put_reference_text(store: &mut [u8], e: ExprId, text: &[u8], moved: &mut [u8])
-    requires { Long store.old × (Refers e.0 store.old × Changeable (at_reference e.0) text.now store.old moved.old) }
-    ensures { Changes (at_reference e.0) text.now store.old moved.old store.new moved.new }
-{
-    move_by_reference(store, e, text, moved);
-    let new = add_text(store, text);
-    set_reference_text(store, e, new);
+    move_answers_of(store, place, text, count, moved);
+    let t = add_text(store, text);
+    set_text(store, place, t);
     spend(store, text.len());
 }

@@ -1,6 +1,6 @@
 -- What a host is told of a call: the number returned, the five words of the reply, and the list in the buffer
 -- (docs/STORE.md, "Reply and buffer").
-use Rattle.std.specs.Prelude.{◌≡◌, List, [], ◌∷◌, ℕ, length, ltb, if◌then◌else◌}
+use Rattle.std.specs.Prelude.{◌≡◌, List, [], ◌∷◌, ℕ, ◌*◌, length, ltb, Result, Ok, Err, if◌then◌else◌}
 use Rattle.spec.specs.Basics.{ExprId}
 use Rattle.spec.specs.Sheet.{Judged}
 use Rattle.spec.specs.Calls.{Outcome, refusal, answered, listed, accepted, reply_bytes, with_list}
@@ -8,6 +8,8 @@ use Rattle.layout.specs.Rows.{set_all}
 use Rattle.answer.specs.declared.answer.Answer.{Answer}
 use Rattle.answer.specs.Answers.{answer_with}
 use Rattle.answer.specs.Told.{number_of, value_of}
+use Rattle.refusals.specs.declared.refusal.Refusal.{Refusal}
+use Rattle.replies.specs.declared.Refused.{Refused}
 
 -- "0 for none"
 unfoldable pub returned : Outcome → ℕ
@@ -37,6 +39,10 @@ reply_after o reply = if ltb (length reply) reply_bytes then reply else set_all 
 -- the host's buffer after the call: "the buffer past it is not written"
 unfoldable pub buffer_after : Outcome → List ℕ → List ℕ
 buffer_after o buffer = set_all buffer 0 (list_of o)
+
+-- so many numbers, where they fit so many bytes; else the call is refused, and the place is how many there are
+abbrev pub in_bytes : ℕ → ℕ → Refusal → Result ℕ Refused
+in_bytes n bytes why = if ltb bytes (4 * n) then Err (record { 0 = why; 1 = n }) else Ok n
 
 -- what a load comes to
 unfoldable pub load_outcome : Judged → Outcome

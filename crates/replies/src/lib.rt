@@ -3,19 +3,21 @@
 // It knows the outcomes of the definitions (Calls.antt) and where their words lie in a reply, and nothing of a store.
 #![tactic(auto)]
 
-ghost use Rattle.std.specs.Prelude.{◌≡◌, ℕ, ◌≤◌, ◌<◌, length};
+ghost use Rattle.std.specs.Prelude.{◌≡◌, ◌≤◌, length};
 ghost use Rattle.spec.specs.Calls.{reply_bytes, refusal};
 ghost use Rattle.refusals.specs.Numbers.{number_of};
-ghost use Rattle.replies.specs.Replies.{Told, ToldMoved, ToldList, ToldAnswer};
+ghost use Rattle.replies.specs.Replies.{Told, ToldMoved, ToldList, ToldAnswer, in_bytes};
 
 use answer::{Answer, answer_number, answer_value};
 use layout::put_words;
 use refusals::Refusal;
 
-// Five words: a shorter reply is not written.
+// Five words: a shorter reply is not written. A reply is a `&mut [u8]` that C lends: a type that carried its length would
+// have to say whose bytes it holds, a clause for each `reply_bytes ≤ length reply.old` below.
 pub const REPLY_BYTES: usize = 20;
 
 // A refusal: its number, which is returned too, and its place.
+#[tactic(auto, unfolding(crate::specs::Replies::returned, crate::specs::Replies::reply_words, crate::specs::Replies::reply_after))]
 pub fn refuse(reply: &mut [u8], number: u32, place: u32) -> u32
     requires { reply_bytes ≤ length reply.old }
     ensures { Told (refusal number place) reply.old result reply.new }
@@ -38,25 +40,30 @@ impl Refused {
     }
 }
 
-// A load, or a change, that is done: how many References it moved; they stand in the buffer. A load moves none.
-pub fn accept(reply: &mut [u8], count: u32) -> u32
-    requires { reply_bytes ≤ length reply.old }
-    ensures { ToldMoved count reply.old result reply.new }
+// A list of so many numbers has to fit the bytes that are lent for it: 26 or 34, whose place is the length of the list.
+pub fn room_for(count: u32, bytes: usize, short: Refusal) -> Result<u32, Refused>
+    ensures { result ≡ in_bytes count bytes short }
 {
-    put_words(reply, 0, [0, 0, 0, 0, count]);
-    0
+    if bytes < 4 * count as usize {
+        return Err(Refused(short, count));
+    }
+    Ok(count)
 }
 
-// How many references a name has; they stand in the buffer.
-pub fn tell_list(reply: &mut [u8], count: u32) -> u32
+// A call that is done, and the length of the list in the buffer: the References that a change moved (a load moves
+// none), or those of a name.
+#[tactic(auto, unfolding(crate::specs::Replies::returned, crate::specs::Replies::reply_words, crate::specs::Replies::reply_after))]
+pub fn tell_count(reply: &mut [u8], count: u32) -> u32
     requires { reply_bytes ≤ length reply.old }
-    ensures { ToldList count reply.old result reply.new }
+    ensures moved { ToldMoved count reply.old result reply.new }
+    ensures list { ToldList count reply.old result reply.new }
 {
     put_words(reply, 0, [0, 0, 0, 0, count]);
     0
 }
 
 // An answer, with how many Withs stand in the buffer.
+#[tactic(auto, unfolding(crate::specs::Replies::returned, crate::specs::Replies::reply_words, crate::specs::Replies::reply_after))]
 pub fn tell_answer(reply: &mut [u8], a: Answer, count: u32) -> u32
     requires { reply_bytes ≤ length reply.old }
     ensures { ToldAnswer a count reply.old result reply.new }

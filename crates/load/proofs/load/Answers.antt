@@ -14,4 +14,4 @@ pub returns-in-Err : goal.returns-in-Err
 returns-in-Err c = let answer = sheet_refused _ _ _ (omega (arith, c.if-store-lt-STORE_BYTES.false)) (omega (arith, c.if-reply-lt-REPLY_BYTES.false)) _ c.judge.ensures c.in-Err.refused c.number-in-Err.result c.in-Err.is c.number-in-Err.ensures c.refuse.ensures in record { value = answer.0; reply_after = answer.1.0; leaves = answer.1.1 }
 
 pub returns-in-Ok : goal.returns-in-Ok
-returns-in-Ok c = let answer = sheet_accepted _ _ _ (omega (arith, c.if-store-lt-STORE_BYTES.false)) (omega (arith, c.if-reply-lt-REPLY_BYTES.false)) _ c.judge.ensures _ _ c.in-Ok.is c.fill.ensures c.accept.ensures in record { value = answer.0; reply_after = answer.1.0; leaves = answer.1.1 }
+returns-in-Ok c = let answer = sheet_accepted _ _ _ (omega (arith, c.if-store-lt-STORE_BYTES.false)) (omega (arith, c.if-reply-lt-REPLY_BYTES.false)) _ c.judge.ensures _ _ c.in-Ok.is c.fill.ensures c.tell_count.ensures.moved in record { value = answer.0; reply_after = answer.1.0; leaves = answer.1.1 }

@@ -10,4 +10,4 @@ pub returns-then-n-gt-ROOM : goal.returns-then-n-gt-ROOM
 returns-then-n-gt-ROOM c = spends_nothing _ _ _ c.spent-before.ensures (inr c.if-n-gt-ROOM.true)
 
 pub returns : goal.returns
-returns c = spends_more _ _ _ c.spent-before.ensures _ _ c.short.ensures c.set_spent.ensures
+returns c = spends_more _ _ _ c.spent-before.ensures _ c.set_spent.ensures

@@ -2,4 +2,4 @@
 use Rattle.change.proofs.new_text.lacks_room.Goals as goal
 
 pub returns : goal.returns
-returns c = rw (c.wide.ensures, c.spent.ensures)
+returns c = rw c.spent.ensures

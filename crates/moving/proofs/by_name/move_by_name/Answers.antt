@@ -6,11 +6,5 @@ use Rattle.moving.proofs.by_name.move_by_name.Goals as goal
 pub returns-then-count-eq0 : goal.returns-then-count-eq0
 returns-then-count-eq0 c = moves_none _ _ _ _ (omega (arith, c.requires.1.1, c.if-count-eq0.true))
 
-pub move_answers-requires : goal.move_answers-requires
-move_answers-requires c = (c.requires.0, c.requires.1.0)
-
-pub list_references-requires : goal.list_references-requires
-list_references-requires c = omega (arith, c.requires.0, c.move_answers.ensures.answers.wrote.size)
-
 pub returns : goal.returns
 returns c = moves_all _ _ _ _ _ _ _ c.requires.1.0.named c.move_answers.ensures c.list_references.ensures (λ z. c.if-count-eq0.false (omega (arith, c.requires.1.1)))

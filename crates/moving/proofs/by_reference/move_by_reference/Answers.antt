@@ -3,17 +3,8 @@ use Rattle.moving.proofs.AllLaws.{reference_counted, reference_moves, reference_
 use native.Mathlib.Omega.{arith}
 use Rattle.moving.proofs.by_reference.move_by_reference.Goals as goal
 
-pub moved_by_reference-requires : goal.moved_by_reference-requires
-moved_by_reference-requires c = (c.requires.0, c.requires.1.0)
-
-pub set_answer-requires : goal.set_answer-requires
-set_answer-requires c = c.requires.0
-
 pub put32-requires : goal.put32-requires
 put32-requires c = omega (arith, c.requires.1.1.room, reference_counted _ _ _ c.requires.1.0 _ c.moved_by_reference.ensures _ c.in-Some.is)
-
-pub list_references-requires : goal.list_references-requires
-list_references-requires c = omega (arith, c.requires.0, c.set_answer.ensures.wrote.size)
 
 pub returns-in-Some : goal.returns-in-Some
 returns-in-Some c = reference_moves _ _ _ c.requires.1.0 _ c.moved_by_reference.ensures _ c.in-Some.is c.requires.1.1.named _ _ _ _ c.set_answer.ensures c.put32.ensures c.list_references.ensures
