@@ -7,7 +7,6 @@ ghost use Rattle.layout.specs.Keeps.{kept_in};
 ghost use Rattle.resolve.specs.Withs.{Lists};
 
 use kept::{reference_at, reference_count};
-use layout::wide;
 use module::{ExprId, NameId};
 use words::put32;
 
@@ -20,7 +19,7 @@ fn write_references(store: &[u8], x: NameId, buffer: &mut [u8], n: u32)
         let Some(e) = reference_at(store, x, i) else {
             return;
         };
-        put32(buffer, 4 * wide(i), e.0);
+        put32(buffer, 4 * i as usize, e.0);
     }
 }
 
@@ -30,7 +29,7 @@ pub fn list_kept_references(store: &[u8], x: NameId, buffer: &mut [u8]) -> u32
     ensures { Lists (kept_references (kept_in store.now) x.0) buffer.old result buffer.new }
 {
     let count = reference_count(store, x);
-    if buffer.len() < 4 * wide(count) {
+    if buffer.len() < 4 * count as usize {
         return count;
     }
     write_references(store, x, buffer, count);
