@@ -11,6 +11,7 @@ use module::{ExprId, NameId};
 use words::put32;
 
 // Writes all n of them.
+#[tactic(auto, using(crate::proofs::ReferenceLaws::copying_more, crate::proofs::ReferenceLaws::copying_lost, crate::proofs::ReferenceLaws::copying_done))]
 fn write_references(store: &[u8], x: NameId, buffer: &mut [u8], n: u32)
     requires { Long store.now × ((n ≡ length (kept_references (kept_in store.now) x.0)) × (4 * n ≤ length buffer.old)) }
     ensures { buffer.new ≡ set_all buffer.old 0 (kept_references (kept_in store.now) x.0) }
