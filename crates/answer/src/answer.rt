@@ -15,6 +15,7 @@ pub enum Answer {
 }
 
 // The name of an answer: none where it is no definition.
+#[tactic(auto, unfolding(crate::specs::Answers::meant_by, module::specs::Ids::name_of))]
 pub fn name_of_answer(a: Answer) -> Option<NameId>
     ensures { name_of result ≡ meant_by a }
 {

@@ -10,4 +10,4 @@ mod word;
 
 pub use answer::{Answer, name_of_answer};
 pub use told::{answer_number, answer_value};
-pub use word::{answer_of, answer_word};
+pub use word::answer_word;

@@ -3,6 +3,8 @@ ghost use Rattle.answer.specs.Told.{number_of, value_of, Tells};
 
 use crate::answer::Answer;
 
+// Not a `From` either: an answer has this number, its value and its word in a store (word.rt).
+#[tactic(auto, unfolding(crate::specs::Told::number_of, crate::specs::Answers::answer_with))]
 pub fn answer_number(a: Answer) -> u32
     ensures { Tells number_of a result }
 {
@@ -15,6 +17,7 @@ pub fn answer_number(a: Answer) -> u32
 }
 
 // The name or the index; 0 where there is neither.
+#[tactic(auto, unfolding(crate::specs::Told::value_of, crate::specs::Answers::answer_with))]
 pub fn answer_value(a: Answer) -> u32
     ensures { Tells value_of a result }
 {

@@ -6,24 +6,25 @@ use crate::answer::Answer;
 use layout::tables::{ABSENT, NAME_LIMIT};
 use module::NameId;
 
-// The answer that a word stands for.
-pub fn answer_of(n: u32) -> Answer
-    ensures { result ≡ answer_of_word n }
-{
-    if n == 0 {
-        return Answer::Unresolved;
-    }
-    if n == 1 {
-        return Answer::Withs;
-    }
-    if n < 24 {
-        Answer::Builtin(n - 2)
-    } else {
-        Answer::Definition(NameId(n - 24))
+// The answer that a word stands for. Any number may stand in a store, so every number is turned into an answer, and it is
+// done here alone.
+impl From<u32> for Answer {
+    ghost from_gives = { λ n a. a ≡ answer_of_word n };
+
+    #[tactic(auto, unfolding(crate::specs::Words::answer_of_word))]
+    fn from(n: u32) -> Answer {
+        match n {
+            0 => Answer::Unresolved,
+            1 => Answer::Withs,
+            2..=23 => Answer::Builtin(n - 2),
+            _ => Answer::Definition(NameId(n - 24)),
+        }
     }
 }
 
-// The word of an answer, and the mark for one that no row can have.
+// The word of an answer, and the mark for one that no row can have. No `From`: an answer has two more numbers, for a host
+// (told.rt), and the name says which one this is.
+#[tactic(auto, unfolding(crate::specs::Words::answer_word))]
 pub fn answer_word(a: Answer) -> u32
     ensures { result ≡ answer_word a }
 {

@@ -21,7 +21,6 @@ use Rattle.answer.specs.declared.answer.Answer.{Answer}
 use Rattle.answer.specs.declared.answer.Answer.TheVariants.{Unresolved, Definition, Builtin, Withs}
 use Rattle.answer.specs.Answers.{answer_with, maybe_with}
 use Rattle.answer.specs.Words.{answer_of_word, answer_word}
-use Rattle.answer.proofs.WordLaws.{word_zero, word_one}
 use Rattle.layout.specs.Layout.{absent, expr_limit, name_limit, expr_row, use_row, expr_count, name_count, scope_count, spent_place, exprs_at, uses_at, scopes_at, Long}
 use Rattle.layout.specs.Rows.{cap, rows_to, raised}
 use Rattle.layout.specs.Changes.{Outside, Wrote, Still}
@@ -67,12 +66,9 @@ word_says v o n =
 
 -- the word of an answer says it
 pub says_again : (a : Answer) (v : Scopes) (o : Option ℕ) → (answer_word a ≡ absent → ⊥) → answer_of v o (answer_word a) ≡ answer_with a (withs_in v o)
-unfolding answer_word answer_with
-says_again Unresolved v o h = says_unresolved v o
-  where
-    says_unresolved : (v : Scopes) (o : Option ℕ) → answer_of v o 0 ≡ spec.unresolved
-    says_unresolved v o = sym (word_says v o 0) ∙ ap (λ (a : Answer). answer_with a (withs_in v o)) (sym (word_zero 0 refl))
-says_again Withs v o h = sym (word_says v o 1) ∙ ap (λ (a : Answer). answer_with a (withs_in v o)) (sym (word_one 1 refl))
+unfolding answer_word answer_with answer_of
+says_again Unresolved v o h = refl
+says_again Withs v o h = withs_are v o
 says_again (Builtin i) v o h = go (ltb i 22) refl
   where
     go : (b : Bool) → ltb i 22 ≡ b → answer_of v o (answer_word (Builtin i)) ≡ spec.builtin i

@@ -1,6 +1,7 @@
 pub mod ScopeReads
 pub mod NeatLaws
 pub mod HoldingLaws
+pub mod ZeroLaws
 pub mod ScopeLaws
 pub mod KeepFrames
 pub mod AnswerLaws

@@ -44,8 +44,8 @@ length_references s x =
 pub none_listed : (s : List ℕ) (x n : ℕ) → n ≡ cap (word s name_count) name_limit → n ≤ x → 0 ≡ length (ReferencesAt s x)
 none_listed s x n en h = rw (refs_out s x (rw (← en) h))
 
-pub some_listed : (s : List ℕ) (x n a b r : ℕ) → n ≡ cap (word s name_count) name_limit → x < n → a ≡ cap (word s (firsts_at + 4 * x)) reference_limit → b ≡ cap (word s (firsts_at + 4 * x + 4)) reference_limit → r ≡ b - a → r ≡ length (ReferencesAt s x)
-some_listed s x n a b r en h ea eb er = rw (refs_in s x (rw (← en) h)) (er ∙ rw (ea, eb) (sym (length_references s x)))
+pub some_listed : (s : List ℕ) (x n r : ℕ) → n ≡ cap (word s name_count) name_limit → x < n → r ≡ cap (word s (firsts_at + 4 * x + 4)) reference_limit - cap (word s (firsts_at + 4 * x)) reference_limit → r ≡ length (ReferencesAt s x)
+some_listed s x n r en h e = rw (refs_in s x (rw (← en) h)) (e ∙ sym (length_references s x))
 
 -- where there is a reference, it stands in the table
 pub record Found (s : List ℕ) (x k : ℕ) : Type 0 where

@@ -1,6 +1,6 @@
 -- What the writers of scopes do to them. Assumes nothing.
 use mathlib.Core.Path.{◌≡◌, refl, sym, ap, ◌∙◌}
-use mathlib.Core.Logic.{◌⊎◌, inl, inr, ⊎_elim}
+use mathlib.Core.Logic.{◌⊎◌, inl, inr}
 use mathlib.Core.Bool.{Bool, true, false}
 use mathlib.Core.List.{List, [], ◌∷◌, ◌++◌}
 use mathlib.Core.Option.{Option, none, some}
@@ -20,18 +20,15 @@ use Rattle.layout.specs.Changes.{Outside, Wrote, Still}
 use Rattle.layout.specs.States.{exprs_of}
 use Rattle.layout.specs.Exprs.{made_in}
 use Rattle.layout.specs.Keeps.{first_entered, entered_of, kind_of_scope, scope_in, scope_of, scopes_in}
-use Rattle.kept.specs.Walks.{names_entered, entered_by, kind_fits, try_open, try_place, try_root, root, walking, used_names, waiting_names, Neat, Walked, Unplaced, Emptied, Waits}
+use Rattle.kept.specs.Walks.{names_entered, entered_by, kind_fits, try_open, try_place, try_root, root, walking, used_names, waiting_names, Neat, Walked, Emptied, Waits}
 use Rattle.layout.proofs.RowLaws.{rows_same, length_rows, rows_put, between_same, cap_le, cap_over, cap_lim, cap_less}
-use Rattle.layout.proofs.Frames.{Same, wrote_none, wrote_then}
+use Rattle.kept.specs.Zeroes.{Zeroed}
+use Rattle.layout.proofs.Frames.{Same, clear_of, wrote_none}
 use Rattle.layout.proofs.WriteLaws.{length_all, still_set_word, still_all, still_then, all_other, all_at}
 use Rattle.kept.proofs.ScopeReads.{scope_in_lem, length_scopes}
 use Rattle.kept.proofs.NeatLaws.{neat_count, neat_below, neat_all}
 
 -- ---- one write
--- what lies outside a range lies outside what is written in it
-pub clear_of : (at m lo hi j : ℕ) → lo ≤ at → at + m ≤ hi → (j + 4 ≤ lo) ⊎ (hi ≤ j) → (j + 4 ≤ at) ⊎ (at + m ≤ j)
-clear_of at m lo hi j a b o = ⊎_elim (λ z. inl (omega arith)) (λ z. inr (omega arith)) o
-
 -- a counter that has room is the count of rows; where one has none, all rows are in use
 pub room_count : (r : Bool) (i n l : ℕ) → i ≡ n → r ≡ ltb i l → r ≡ true → i ≡ cap n l
 room_count r i n l e h q = let k = ltb-true i l (sym h ∙ q) in e ∙ sym (cap_le n l (omega arith))
@@ -64,9 +61,6 @@ pub placed_same : (s t : List ℕ) → word t expr_count ≡ word s expr_count �
 placed_same s t e w = placed_by s t e (λ i h. w (uses_at + use_row * i) (omega arith) (omega arith))
 
 -- ---- one scope more
-pub scope_put : (s u t : List ℕ) (i k n p w e : ℕ) → k ≡ i → n ≡ i + 1 → u ≡ set_all s (scopes_at + 4 + scope_row * k) (p ∷ w ∷ e ∷ []) → t ≡ set_word u scope_count n → t ≡ set_word (set_all s (scopes_at + 4 + scope_row * i) (p ∷ w ∷ e ∷ [])) scope_count (i + 1)
-scope_put s u t i k n p w e ek en eu et = (rw en at et) ∙ ap (λ (x : List ℕ). set_word x scope_count (i + 1)) (rw ek at eu)
-
 pub record Scoped (i p w e : ℕ) (s t : List ℕ) : Type 0 where
   pub wrote : Wrote walking s t
   pub still : Still s t
@@ -442,29 +436,12 @@ module _ (s : List ℕ) (n first i x : ℕ) (l : Long s) (en : n ≡ cap (word s
         }
 
 -- ---- clearing
-pub unplaced_more : (s u t : List ℕ) (e : ℕ) → Long s → e < expr_limit → Unplaced e s u → t ≡ set_word u (uses_at + use_row * e) 0 → Unplaced (e + 1) s t
-unfolding Outside
-unplaced_more s u t e l h d et =
-    let at = uses_at + use_row * e in
-    let other : (j : ℕ) → (j + 4 ≤ at) ⊎ (at + 4 ≤ j) → word t j ≡ word u j = λ j o. rw et (word_set_word_other u at 0 j o) in
-    record {
-      wrote = wrote_then d.wrote (record { size = rw et (length_set_word u at 0); other = λ j o. other j (clear_of at 4 uses_at scopes_at j (omega arith) (omega arith) o.0) });
-      still = still_then d.still (rw et (still_set_word u at 0 (omega arith) (λ z. omega arith)));
-      gone = λ k z. gone k (ltb k e) refl z;
-    }
-  where
-    gone : (k : ℕ) (b : Bool) → ltb k e ≡ b → k < e + 1 → word t (uses_at + use_row * k) ≡ 0
-    gone k true q z = let m = ltb-true k e q in rw et (word_set_word_other u (uses_at + use_row * e) 0 (uses_at + use_row * k) (inl (omega arith)) ∙ d.gone k m)
-    gone k false q z =
-        let m : k ≡ e = omega (arith, ltb-false k e q) in
-        rw (m, et) (word_set_word_same u (uses_at + use_row * e) 0 (omega (arith, d.wrote.size)) (omega arith))
-
 rows_all : {A : Type 0} (x : A) (n : ℕ) → rows_to (λ i. x) n ≡ replicate n x
 unfolding rows_to
 rows_all x zero = refl
 rows_all x (suc n) = let e : n + 1 ≡ suc n = omega arith in rw (rows_all x n) (replicate-append-replicate n 1 x ∙ rw e)
 
-module _ (s u v t : List ℕ) (n : ℕ) (l : Long s) (en : n ≡ cap (word s expr_count) expr_limit) (d : Unplaced n s u) (ev : v ≡ set_word u scopes_at 0) (et : t ≡ set_word v scope_count 0) where
+module _ (s u v t : List ℕ) (n : ℕ) (l : Long s) (en : n ≡ cap (word s expr_count) expr_limit) (d : Zeroed uses_at use_row n s u) (ev : v ≡ set_word u scopes_at 0) (et : t ≡ set_word v scope_count 0) where
   size_u : length u ≡ length s
   size_u = d.wrote.size
 
@@ -476,7 +453,7 @@ module _ (s u v t : List ℕ) (n : ℕ) (l : Long s) (en : n ≡ cap (word s exp
 
   cleared_exprs : word t expr_count ≡ word s expr_count
   unfolding Outside
-  cleared_exprs = cleared_other expr_count (inl (omega arith)) (inl (omega arith)) ∙ d.wrote.other 0 (inl (omega arith), tt)
+  cleared_exprs = cleared_other expr_count (inl (omega arith)) (inl (omega arith)) ∙ d.wrote.other expr_count (inl (omega arith), tt)
 
   cleared_count : word t scope_count ≡ 0
   cleared_count = rw et (word_set_word_same v scope_count 0 (omega (arith, size_v)) (omega arith))
@@ -515,7 +492,7 @@ module _ (s u v t : List ℕ) (n : ℕ) (l : Long s) (en : n ≡ cap (word s exp
         wrote =
             record {
               size = rw et (length_set_word v scope_count 0 ∙ size_v);
-              other = λ j o. cleared_other j o.0 (clear_of scopes_at 4 uses_at firsts_at j (omega arith) (omega arith) o.1.0) ∙ d.wrote.other j (clear_of uses_at 131072 uses_at firsts_at j (omega arith) (omega arith) o.1.0, tt);
+              other = λ j o. cleared_other j o.0 (clear_of scopes_at 4 uses_at firsts_at j (omega arith) (omega arith) o.1.0) ∙ d.wrote.other j (clear_of uses_at (use_row * n) uses_at firsts_at j (omega arith) (omega (arith, en, cap_lim (word s expr_count) expr_limit)) o.1.0, tt);
             };
         still = still_then d.still (still_then {u = v} (rw ev (still_set_word u scopes_at 0 (omega arith) (λ z. omega arith))) (rw et (still_set_word v scope_count 0 (omega arith) (λ z. omega arith))));
         is = scopes_are (scopes_in t) (record { scopes = []; of_expr = replicate (length (exprs_of s)) none }) cleared_scopes cleared_placed;

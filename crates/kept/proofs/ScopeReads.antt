@@ -102,8 +102,8 @@ length_entered s i =
 pub count_none : (s : List ℕ) (i : ℕ) → NamesAt s i ≡ [] → 0 ≡ length (NamesAt s i)
 count_none s i e = rw e
 
-pub count_own : (s : List ℕ) (i a b r : ℕ) → i < cap (word s scope_count) scope_limit → word s (scopes_at + scope_row * i + 8) ≡ 0 → a ≡ cap (word s (scopes_at + scope_row * i)) name_limit → b ≡ cap (word s (scopes_at + scope_row * i + 12)) name_limit → r ≡ b - a → r ≡ length (NamesAt s i)
-count_own s i a b r h k ea eb er = rw (own_names s i h k) (er ∙ rw (ea, eb) (sym (length_entered s i)))
+pub count_own : (s : List ℕ) (i r : ℕ) → i < cap (word s scope_count) scope_limit → word s (scopes_at + scope_row * i + 8) ≡ 0 → r ≡ cap (word s (scopes_at + scope_row * i + scope_row)) name_limit - cap (word s (scopes_at + scope_row * i)) name_limit → r ≡ length (NamesAt s i)
+count_own s i r h k e = rw (own_names s i h k) (e ∙ sym (length_entered s i))
 
 -- where there is a name, it stands in the table
 pub record Named (s : List ℕ) (i k : ℕ) : Type 0 where

@@ -5,7 +5,7 @@ use Rattle.std.proofs.Math.Option.{Option, none, some}
 use Rattle.words.specs.Words.{word}
 use Rattle.spec.specs.Basics.{ExprId, NameId, ScopeId}
 use Rattle.spec.specs.Scopes.{ScopeKind, definitions, with_expr, Scope, Walk, place_expr, open_scope}
-use Rattle.layout.specs.Layout.{expr_limit, name_limit, scope_limit, use_row, scope_row, scope_count, uses_at, scopes_at, entered_at, firsts_at}
+use Rattle.layout.specs.Layout.{expr_limit, name_limit, scope_limit, scope_row, scope_count, uses_at, scopes_at, entered_at, firsts_at}
 use Rattle.layout.specs.Rows.{cap, rows_to}
 use Rattle.layout.specs.Changes.{Range, Wrote, Still}
 use Rattle.layout.specs.States.{exprs_of}
@@ -78,12 +78,6 @@ pub record Walked {A : Type 0} (p : Walk A) (s : List ℕ) (r : A) (t : List ℕ
   pub wrote : Wrote walking s t
   pub still : Still s t
   pub does : Neat s → ((r, scopes_in t) ≡ p (scopes_in s)) × Neat t
-
--- None of the first n expressions is in a scope.
-pub record Unplaced (n : ℕ) (s t : List ℕ) : Type 0 where
-  pub wrote : Wrote ((uses_at, scopes_at) ∷ []) s t
-  pub still : Still s t
-  pub gone : (e : ExprId) → e < n → word t (uses_at + use_row * e) ≡ 0
 
 -- There is no scope, and no expression is in one.
 pub record Emptied (s t : List ℕ) : Type 0 where

@@ -9,15 +9,15 @@ ghost use Rattle.answer.specs.Answers.{maybe_with};
 ghost use Rattle.kept.specs.Answers.{withs_at, Answered};
 
 use crate::limits::in_use;
-use answer::{Answer, answer_of, answer_word};
+use answer::{Answer, answer_word};
 use layout::tables::{ABSENT, EXPR_COUNT, EXPR_LIMIT, EXPR_ROW, EXPRS, USE_ROW, USES};
-use layout::wide;
 use module::ExprId;
 use words::{get32, put32};
 
 const REFERENCE: u32 = 21;
 
 // The answer that is kept for an expression: none for one that is no Reference.
+#[tactic(auto, using(crate::proofs::AnswerLaws::kept_other, crate::proofs::AnswerLaws::kept_is))]
 pub fn kept_answer(store: &[u8], e: ExprId) -> Option<Answer>
     requires { Long store.now }
     ensures { maybe_with result (withs_at (scopes_in store.now) e.0) ≡ kept_answer (kept_in store.now) e.0 }
@@ -26,13 +26,14 @@ pub fn kept_answer(store: &[u8], e: ExprId) -> Option<Answer>
     if in_use(store, EXPR_COUNT, EXPR_LIMIT) <= i {
         return None;
     }
-    if get32(store, EXPRS + EXPR_ROW * wide(i) + 4) != REFERENCE {
+    if get32(store, EXPRS + EXPR_ROW * i as usize + 4) != REFERENCE {
         return None;
     }
-    Some(answer_of(get32(store, USES + USE_ROW * wide(i) + 4)))
+    Some(Answer::from(get32(store, USES + USE_ROW * i as usize + 4)))
 }
 
 // Keeps an answer for the Reference e.
+#[tactic(auto, using(crate::proofs::AnswerLaws::no_word, crate::proofs::AnswerLaws::no_expr))]
 pub fn set_answer(store: &mut [u8], e: ExprId, a: Answer)
     requires { Long store.old }
     ensures { Answered e.0 a store.old store.new }
@@ -45,5 +46,5 @@ pub fn set_answer(store: &mut [u8], e: ExprId, a: Answer)
     if in_use(store, EXPR_COUNT, EXPR_LIMIT) <= i {
         return;
     }
-    put32(store, USES + USE_ROW * wide(i) + 4, n);
+    put32(store, USES + USE_ROW * i as usize + 4, n);
 }

@@ -5,6 +5,7 @@
 
 mod answers;
 mod changes;
+mod clearing;
 mod holding;
 mod limits;
 mod references;
@@ -12,6 +13,7 @@ mod scopes;
 
 pub use answers::{kept_answer, set_answer};
 pub use changes::{set_spent, spent};
+pub use clearing::clear_rows;
 pub use holding::scope_holding;
 pub use references::{
     add_reference, clear_references, end_references, reference_at, reference_count,

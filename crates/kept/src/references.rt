@@ -11,9 +11,8 @@ ghost use Rattle.layout.specs.Layout.{Long};
 ghost use Rattle.layout.specs.Keeps.{kept_in};
 ghost use Rattle.kept.specs.References.{Unlisted, Refers, Ended};
 
-use crate::limits::in_use;
+use crate::limits::{in_use, listed};
 use layout::tables::{FIRSTS, NAME_COUNT, NAME_LIMIT, REFERENCE_LIMIT, REFERENCES};
-use layout::wide;
 use module::{ExprId, NameId};
 use words::{get32, put32};
 
@@ -22,6 +21,7 @@ const ROOM: usize = REFERENCE_LIMIT as usize;
 
 // ---- reading
 // How many references a name has.
+#[tactic(auto, using(crate::proofs::ReferenceLaws::none_listed, crate::proofs::ReferenceLaws::some_listed))]
 pub fn reference_count(store: &[u8], x: NameId) -> u32
     requires { Long store.now }
     ensures { result ≡ length (kept_references (kept_in store.now) x.0) }
@@ -30,19 +30,18 @@ pub fn reference_count(store: &[u8], x: NameId) -> u32
     if in_use(store, NAME_COUNT, NAME_LIMIT) <= i {
         return 0;
     }
-    let from = in_use(store, FIRSTS + 4 * wide(i), REFERENCE_LIMIT);
-    let to = in_use(store, FIRSTS + 4 * wide(i) + 4, REFERENCE_LIMIT);
-    to.saturating_sub(from)
+    listed(store, FIRSTS + 4 * i as usize, 4, REFERENCE_LIMIT)
 }
 
 // The i-th of them, from 0 on.
+#[tactic(auto, using(crate::proofs::ReferenceLaws::found, crate::proofs::ReferenceLaws::past_found), unfolding(module::specs::Ids::expr_of))]
 pub fn reference_at(store: &[u8], x: NameId, i: u32) -> Option<ExprId>
     requires { Long store.now }
     ensures { expr_of result ≡ get_elem? (kept_references (kept_in store.now) x.0) i }
 {
     if i < reference_count(store, x) {
-        let from = in_use(store, FIRSTS + 4 * wide(x.0), REFERENCE_LIMIT);
-        Some(ExprId(get32(store, REFERENCES + 4 * (wide(from) + wide(i)))))
+        let from = in_use(store, FIRSTS + 4 * x.0 as usize, REFERENCE_LIMIT);
+        Some(ExprId(get32(store, REFERENCES + 4 * (from as usize + i as usize))))
     } else {
         None
     }
@@ -66,7 +65,7 @@ pub fn add_reference(store: &mut [u8], x: NameId, i: u32, e: ExprId)
     if NAME_LIMIT <= name {
         return;
     }
-    let at = wide(get32(store, FIRSTS + 4 * wide(name))) + wide(i);
+    let at = get32(store, FIRSTS + 4 * name as usize) as usize + i as usize;
     if ROOM <= at {
         return;
     }
@@ -82,9 +81,9 @@ pub fn end_references(store: &mut [u8], x: NameId, n: u32)
     if NAME_LIMIT <= name {
         return;
     }
-    let first = get32(store, FIRSTS + 4 * wide(name));
-    if ROOM < wide(first) + wide(n) {
+    let first = get32(store, FIRSTS + 4 * name as usize);
+    if ROOM < first as usize + n as usize {
         return;
     }
-    put32(store, FIRSTS + 4 * wide(name) + 4, first + n);
+    put32(store, FIRSTS + 4 * name as usize + 4, first + n);
 }

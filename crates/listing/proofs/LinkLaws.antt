@@ -19,9 +19,10 @@ use Rattle.layout.specs.Changes.{Range, Outside, Wrote, Still}
 use Rattle.layout.specs.Keeps.{kept_in}
 use Rattle.layout.proofs.Frames.{apart, clear_of, same_on, wrote_none, wrote_then}
 use Rattle.layout.proofs.WriteLaws.{still_set_word, still_then}
+use Rattle.kept.specs.Zeroes.{Zeroed}
 use Rattle.kept.proofs.KeepFrames.{answers_kept}
 use Rattle.answer.specs.Answers.{meant}
-use Rattle.listing.specs.Links.{linking, next_of, head_of, Chained, answered_from, Linked, Unheaded, LinksOne, LinksAll, Links}
+use Rattle.listing.specs.Links.{linking, next_of, head_of, Chained, answered_from, Linked, LinksOne, LinksAll, Links}
 use Rattle.listing.proofs.AnsweredLaws.{Within, from_within, from_end, from_none, from_else, from_own}
 
 -- ---- what stays linked
@@ -56,24 +57,6 @@ module _ {rs : List Range} {s t : List ℕ} (w : Wrote rs s t) (c : apart (0, 4)
 
     pub still_linked : (n : ℕ) → n ≤ name_limit → Linked n 0 s → Linked n 0 t
     still_linked n h p = record { chain = λ x k. rw (head_same x (omega arith), from_same 0 x) (still_chained (head_of s x) (answered_from s 0 x) (from_within s 0 x (omega arith)) (p.chain x k)) }
-
--- ---- clearing
-pub unheaded_more : (s u t : List ℕ) (x : ℕ) → Long s → x < name_limit → Unheaded x s u → t ≡ set_word u (heads_at + 4 * x) 0 → Unheaded (x + 1) s t
-unfolding Outside linking head_of
-unheaded_more s u t x l h d et =
-    let at = heads_at + 4 * x in
-    let other : (j : ℕ) → (j + 4 ≤ at) ⊎ (at + 4 ≤ j) → word t j ≡ word u j = λ j o. rw et (word_set_word_other u at 0 j o) in
-    record {
-      wrote = wrote_then d.wrote (record { size = rw et (length_set_word u at 0); other = λ j o. other j (clear_of at 4 nexts_at sets_at j (omega arith) (omega arith) o.0) });
-      still = still_then d.still (rw et (still_set_word u at 0 (omega arith) (λ z. omega arith)));
-      gone = λ y z. gone y (ltb y x) refl z;
-    }
-  where
-    gone : (y : ℕ) (b : Bool) → ltb y x ≡ b → y < x + 1 → word t (heads_at + 4 * y) ≡ 0
-    gone y true q z = let m = ltb-true y x q in rw et (word_set_word_other u (heads_at + 4 * x) 0 (heads_at + 4 * y) (inl (omega arith)) ∙ d.gone y m)
-    gone y false q z =
-        let m : y ≡ x = omega (arith, ltb-false y x q) in
-        rw (m, et) (word_set_word_same u (heads_at + 4 * x) 0 (omega (arith, d.wrote.size)) (omega arith))
 
 -- ---- one expression
 -- that means no name, or none of the first n
@@ -191,7 +174,9 @@ linking_more s u t n left h d o =
 pub linking_done : (s t : List ℕ) (n left : ℕ) → Linking n left s t → left ≤ 0 → LinksAll n s t
 linking_done s t n left d h = let q : left ≡ 0 = omega arith in record { wrote = d.wrote; still = d.still; links = rw q at d.links }
 
-pub links_every : (s u t : List ℕ) (k n : ℕ) → k ≡ word s name_count → n ≡ cap k name_limit → Unheaded n s u → LinksAll n u t → Links s t
-links_every s u t k n ek en h l =
+pub links_every : (s u t : List ℕ) (k n : ℕ) → k ≡ word s name_count → n ≡ cap k name_limit → n ≤ name_limit → Zeroed heads_at 4 n s u → LinksAll n u t → Links s t
+unfolding Outside linking head_of
+links_every s u t k n ek en h d l =
     let e : n ≡ cap (word s name_count) name_limit = rw ek at en in
-    record { wrote = wrote_then h.wrote l.wrote; still = still_then h.still l.still; linked = rw e at (l.links h.gone) }
+    let cleared : Wrote linking s u = record { size = d.wrote.size; other = λ j o. d.wrote.other j (clear_of heads_at (4 * n) nexts_at sets_at j (omega arith) (omega arith) o.0, tt) } in
+    record { wrote = wrote_then cleared l.wrote; still = still_then d.still l.still; linked = rw e at (l.links d.gone) }

@@ -33,12 +33,6 @@ pub record Linked (n : ℕ) (e : ExprId) (s : List ℕ) : Type 0 where
   pub chain : (x : NameId) → x < n → Chained s (head_of s x) (answered_from s e x)
 
 -- ---- what each step did
--- No reference of the first n names is linked.
-pub record Unheaded (n : ℕ) (s t : List ℕ) : Type 0 where
-  pub wrote : Wrote linking s t
-  pub still : Still s t
-  pub gone : (x : NameId) → x < n → head_of t x ≡ 0
-
 -- The expression e is linked before those after it.
 pub record LinksOne (n : ℕ) (e : ExprId) (s t : List ℕ) : Type 0 where
   pub wrote : Wrote linking s t

@@ -2,23 +2,14 @@
 // expression which comes after it. A number stands one too high there, so that 0 can end a list.
 ghost use Rattle.std.specs.Prelude.{◌≤◌, ◌<◌};
 ghost use Rattle.layout.specs.Layout.{expr_limit, name_limit, Long};
-ghost use Rattle.listing.specs.Links.{Unheaded, LinksOne, LinksAll, Links};
+ghost use Rattle.listing.specs.Links.{LinksOne, LinksAll, Links};
 
 use crate::meaning::name_meant;
+use kept::clear_rows;
+use layout::at_most;
 use layout::tables::{EXPR_COUNT, EXPR_LIMIT, HEADS, NAME_COUNT, NAME_LIMIT, NEXTS};
-use layout::{at_most, wide};
 use module::{ExprId, NameId};
 use words::{get32, put32};
-
-// The lists of the first n names are empty.
-fn clear_heads(store: &mut [u8], n: u32)
-    requires { Long store.old × (n ≤ name_limit) }
-    ensures { Unheaded n store.old store.new }
-{
-    for x in 0..n {
-        put32(store, HEADS + 4 * wide(x), 0);
-    }
-}
 
 // The expression e is put before the list of the name that it means, if that is one of the first n.
 fn link_one(store: &mut [u8], e: ExprId, n: u32)
@@ -33,9 +24,9 @@ fn link_one(store: &mut [u8], e: ExprId, n: u32)
     if n <= name {
         return;
     }
-    let head = get32(store, HEADS + 4 * wide(name));
-    put32(store, NEXTS + 4 * wide(i), head);
-    put32(store, HEADS + 4 * wide(name), i + 1);
+    let head = get32(store, HEADS + 4 * name as usize);
+    put32(store, NEXTS + 4 * i as usize, head);
+    put32(store, HEADS + 4 * name as usize, i + 1);
 }
 
 // All expressions, the last one first.
@@ -55,6 +46,6 @@ pub fn link_references(store: &mut [u8])
     ensures { Links store.old store.new }
 {
     let n = at_most(get32(store, NAME_COUNT), NAME_LIMIT);
-    clear_heads(store, n);
+    clear_rows(store, HEADS, 4, n);
     link_all(store, n);
 }

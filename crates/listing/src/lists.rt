@@ -7,8 +7,8 @@ ghost use Rattle.listing.specs.Lists.{Listable, ListsOne, ListsAll, Lists};
 
 use crate::linking::link_references;
 use kept::{add_reference, clear_references, end_references};
+use layout::at_most;
 use layout::tables::{HEADS, NAME_COUNT, NAME_LIMIT, NEXTS};
-use layout::{at_most, wide};
 use module::{ExprId, NameId};
 use words::get32;
 
@@ -17,13 +17,13 @@ fn list_one(store: &mut [u8], x: NameId)
     requires { Long store.old × Listable x.0 store.old }
     ensures { ListsOne x.0 store.old store.new }
 {
-    let mut next = get32(store, HEADS + 4 * wide(x.0));
+    let mut next = get32(store, HEADS + 4 * x.0 as usize);
     let mut i: u32 = 0;
     // No `for`: the body writes the store that the links are read from, and how many there were is asked after it.
     while next != 0 {
         let e = next - 1;
         add_reference(store, x, i, ExprId(e));
-        next = get32(store, NEXTS + 4 * wide(e));
+        next = get32(store, NEXTS + 4 * e as usize);
         i += 1;
     }
     end_references(store, x, i);

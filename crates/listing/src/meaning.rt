@@ -11,12 +11,10 @@ use kept::kept_answer;
 use module::{ExprId, NameId};
 
 // The name that an expression means: none where it is no Reference, or means no name.
+#[tactic(auto, using(answer::proofs::MeantLaws::meant_some, answer::proofs::MeantLaws::meant_none), unfolding(module::specs::Ids::name_of))]
 pub fn name_meant(store: &[u8], e: ExprId) -> Option<NameId>
     requires { Long store.now }
     ensures { name_of result ≡ meant (kept_answer (kept_in store.now) e.0) }
 {
-    match kept_answer(store, e) {
-        Some(a) => name_of_answer(a),
-        None => None,
-    }
+    kept_answer(store, e).and_then(|a| name_of_answer(a))
 }

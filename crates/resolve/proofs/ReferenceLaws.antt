@@ -1,5 +1,5 @@
 -- Writing the kept references of a name into a buffer. Assumes nothing.
-use mathlib.Core.Path.{◌≡◌, refl, sym, ap, ◌∙◌}
+use mathlib.Core.Path.{◌≡◌, sym, ap, ◌∙◌}
 use mathlib.Core.List.{List, [], ◌∷◌}
 use mathlib.Core.Option.{none, some}
 use Prim.Native.Nat.{ℕ, zero, suc, ◌+◌, ◌*◌, ◌≤◌, ◌<◌}
@@ -9,7 +9,6 @@ use Rattle.words.specs.Words.{set_word}
 use Rattle.words.proofs.WordLaws.{length_set_word}
 use Rattle.module.specs.Ids.{expr_of}
 use Rattle.layout.specs.Rows.{set_all}
-use Rattle.resolve.specs.Withs.{Lists}
 use Rattle.module.specs.declared.ids.ExprId as rust_expr_id
 use Rattle.std.specs.Prelude as rust
 
@@ -45,10 +44,3 @@ module _ (es b₀ : List ℕ) (i : ℕ) (b : List ℕ) (d : Copying es b₀ i b)
 pub copying_done : (es b₀ : List ℕ) (i : ℕ) (b : List ℕ) → Copying es b₀ i b → length es ≤ i → b ≡ set_all b₀ 0 es
 unfolding set_all
 copying_done es b₀ i b d l = sym (d.rest ∙ rw (drop_of_length-le es l))
-
--- ---- all or none of them
-pub references_short : (es b : List ℕ) (n : ℕ) → n ≡ length es → length b < 4 * n → Lists es b n b
-references_short es b n e l = record { count = e; wrote = λ k. absurd (omega arith); kept = λ k. refl }
-
-pub references_all : (es b c : List ℕ) (n : ℕ) → n ≡ length es → 4 * n ≤ length b → c ≡ set_all b 0 es → Lists es b n c
-references_all es b c n e l q = record { count = e; wrote = λ k. q; kept = λ k. absurd (omega arith) }

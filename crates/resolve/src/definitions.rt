@@ -23,6 +23,7 @@ use texts::text_is;
 use words::equal;
 
 // Whether the name y has the sought text. A number that is no name's has the empty text, and nothing can be set there.
+#[tactic(auto, using(crate::proofs::SetNameLaws::another, crate::proofs::SetNameLaws::itself, crate::proofs::SetNameLaws::no_names))]
 fn name_is(store: &[u8], y: NameId, sought: &[u8], x: NameId, text: &[u8]) -> bool
     requires { Long store.now }
     ensures { result ≡ equalb (text_of_name (set_name x.0 text.now (module_in store.now)) y.0) sought.now }
@@ -52,6 +53,7 @@ fn entered_as(
     entered_at(store, s, i).filter(|y| name_is(store, *y, sought, x, text))
 }
 
+#[tactic(auto, using(crate::proofs::DefinitionLaws::from_last, crate::proofs::DefinitionLaws::name_passed, crate::proofs::DefinitionLaws::name_lacked), unfolding(module::specs::Ids::name_of))]
 pub fn defined_in(store: &[u8], s: ScopeId, sought: &[u8], x: NameId, text: &[u8]) -> Option<NameId>
     requires { Long store.now }
     ensures { name_of result ≡ defined_in (text_of_name (set_name x.0 text.now (module_in store.now))) sought.now (scope_at (scopes_in store.now).scopes s.0).kind }

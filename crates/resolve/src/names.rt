@@ -22,6 +22,7 @@ use module::{ExprId, NameId, ScopeId, TextId};
 use texts::text_bytes;
 
 // The built-in name that a text is, where no definition hides it.
+#[tactic(auto, using(crate::proofs::NameLaws::hidden, crate::proofs::NameLaws::not_hidden), unfolding(builtins::specs::Lookup::builtin_of))]
 fn unhidden_builtin(found: Option<(ScopeId, NameId)>, sought: &[u8]) -> Option<u32>
     ensures { builtin_of result ≡ unhidden (found_of found) (index_from 0 sought.now builtins) }
 {
@@ -32,6 +33,7 @@ fn unhidden_builtin(found: Option<(ScopeId, NameId)>, sought: &[u8]) -> Option<u
 }
 
 // The definition that was found, or else the Withs around the scope.
+#[tactic(auto, using(crate::proofs::NameLaws::bound, crate::proofs::NameLaws::withs_there, crate::proofs::NameLaws::withs_lacking))]
 fn bound_or_withs(store: &[u8], s: ScopeId, found: Option<(ScopeId, NameId)>) -> Answer
     requires { Long store.now }
     ensures { answer_with result (withs_of (scopes_in store.now).scopes (chain (scopes_in store.now).scopes s.0)) ≡ bound_or (found_of found) (withs_of (scopes_in store.now).scopes (chain (scopes_in store.now).scopes s.0)) }
@@ -43,6 +45,7 @@ fn bound_or_withs(store: &[u8], s: ScopeId, found: Option<(ScopeId, NameId)>) ->
     }
 }
 
+#[tactic(auto, using(crate::proofs::NameLaws::builtin_is, crate::proofs::NameLaws::bound_is))]
 fn resolve_in(store: &[u8], s: ScopeId, sought: &[u8], x: NameId, text: &[u8]) -> Answer
     requires { Long store.now }
     ensures { answer_with result (withs_of (scopes_in store.now).scopes (chain (scopes_in store.now).scopes s.0)) ≡ answer_in (text_of_name (set_name x.0 text.now (module_in store.now))) (scopes_in store.now).scopes sought.now (chain (scopes_in store.now).scopes s.0) }
@@ -56,6 +59,7 @@ fn resolve_in(store: &[u8], s: ScopeId, sought: &[u8], x: NameId, text: &[u8]) -
 
 // What the sought text would mean where the expression e stands, if the name x had the bytes `text`; nothing where e
 // has no scope.
+#[tactic(auto, using(crate::proofs::IdLaws::a_scope, crate::proofs::IdLaws::no_scope, crate::proofs::NameLaws::in_scope, crate::proofs::NameLaws::in_none))]
 pub fn resolve_as(store: &[u8], e: ExprId, sought: &[u8], x: NameId, text: &[u8]) -> Answer
     requires { Long store.now }
     ensures { answer_with result (withs_at (scopes_in store.now) e.0) ≡ answer_at (text_of_name (set_name x.0 text.now (module_in store.now))) (scopes_in store.now).scopes sought.now (scope_of_expr (scopes_in store.now) e.0) }
@@ -75,6 +79,7 @@ pub fn resolve_renamed(store: &[u8], e: ExprId, t: TextId, x: NameId, text: &[u8
 }
 
 // What the text t means there. The mark is no name's number, so that every name is read as it stands.
+#[tactic(auto, using(crate::proofs::SetNameLaws::unset_answer))]
 pub fn resolve_name(store: &[u8], e: ExprId, t: TextId) -> Answer
     requires { Long store.now }
     ensures { answer_with result (withs_at (scopes_in store.now) e.0) ≡ answer_at (text_of_name (module_in store.now)) (scopes_in store.now).scopes (text_in store.now t.0) (scope_of_expr (scopes_in store.now) e.0) }

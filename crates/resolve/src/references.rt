@@ -7,11 +7,11 @@ ghost use Rattle.layout.specs.Keeps.{kept_in};
 ghost use Rattle.resolve.specs.Withs.{Lists};
 
 use kept::{reference_at, reference_count};
-use layout::wide;
 use module::{ExprId, NameId};
 use words::put32;
 
 // Writes all n of them.
+#[tactic(auto, using(crate::proofs::ReferenceLaws::copying_more, crate::proofs::ReferenceLaws::copying_lost, crate::proofs::ReferenceLaws::copying_done))]
 fn write_references(store: &[u8], x: NameId, buffer: &mut [u8], n: u32)
     requires { Long store.now × ((n ≡ length (kept_references (kept_in store.now) x.0)) × (4 * n ≤ length buffer.old)) }
     ensures { buffer.new ≡ set_all buffer.old 0 (kept_references (kept_in store.now) x.0) }
@@ -20,7 +20,7 @@ fn write_references(store: &[u8], x: NameId, buffer: &mut [u8], n: u32)
         let Some(e) = reference_at(store, x, i) else {
             return;
         };
-        put32(buffer, 4 * wide(i), e.0);
+        put32(buffer, 4 * i as usize, e.0);
     }
 }
 
@@ -30,7 +30,7 @@ pub fn list_kept_references(store: &[u8], x: NameId, buffer: &mut [u8]) -> u32
     ensures { Lists (kept_references (kept_in store.now) x.0) buffer.old result buffer.new }
 {
     let count = reference_count(store, x);
-    if buffer.len() < 4 * wide(count) {
+    if buffer.len() < 4 * count as usize {
         return count;
     }
     write_references(store, x, buffer, count);

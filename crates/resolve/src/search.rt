@@ -14,6 +14,7 @@ use crate::definitions::defined_in;
 use crate::withs::is_with;
 use module::{NameId, ScopeId};
 
+#[tactic(auto, using(crate::proofs::ChainLaws::one_comes, crate::proofs::ChainLaws::none_comes, crate::proofs::IdLaws::a_name_lem, crate::proofs::IdLaws::no_name, crate::proofs::SearchLaws::search_here, crate::proofs::SearchLaws::search_on, crate::proofs::SearchLaws::search_through), unfolding(crate::specs::Search::found_of, spec::specs::Answer::innermost))]
 pub fn innermost(
     store: &[u8],
     s: ScopeId,

@@ -14,6 +14,7 @@ use module::{ExprId, ScopeId};
 use words::put32;
 
 // Writes all n of them.
+#[tactic(auto, using(crate::proofs::ChainLaws::one_comes, crate::proofs::ChainLaws::none_comes, crate::proofs::IdLaws::an_expr, crate::proofs::IdLaws::no_expr, crate::proofs::WithListLaws::with_next, crate::proofs::WithListLaws::with_past, crate::proofs::WithListLaws::writing_room, crate::proofs::WithListLaws::writing_on, crate::proofs::WithListLaws::writing_done), unfolding(spec::specs::Answer::withs_of))]
 fn write_withs(store: &[u8], s: ScopeId, buffer: &mut [u8], n: usize)
     requires { Long store.now × ((n ≡ length (withs_of (scopes_in store.now).scopes (chain (scopes_in store.now).scopes s.0))) × (4 * n ≤ length buffer.old)) }
     ensures { buffer.new ≡ set_all buffer.old 0 (withs_of (scopes_in store.now).scopes (chain (scopes_in store.now).scopes s.0)) }

@@ -4,9 +4,6 @@ use Rattle.module.specs.Ids.{name_of}
 use mathlib.Core.Path.{sym, ap, ◌∙◌}
 use Rattle.listing.proofs.linking.link_one.Goals as goal
 
-pub name_meant-requires : goal.name_meant-requires
-name_meant-requires c = c.requires.0
-
 pub returns-in_default : goal.returns-in_default
 unfolding name_of
 returns-in_default c = links_none _ _ _ (sym c.name_meant.ensures ∙ ap name_of c.in_default.is)
@@ -17,4 +14,4 @@ returns-then-n-name c = links_past _ _ _ _ (sym c.name_meant.ensures ∙ ap name
 
 pub returns : goal.returns
 unfolding name_of
-returns c = links_one _ _ _ _ _ _ _ c.requires.0 c.requires.1 c.requires.2 (sym c.name_meant.ensures ∙ ap name_of c.in-Some.is) c.if-n-name.false (rw c.wide.ensures at c.get32-head.ensures) (rw c.wide-2.ensures at c.put32.ensures) (rw c.wide-3.ensures at c.put32-2.ensures)
+returns c = links_one _ _ _ _ _ _ _ c.requires.0 c.requires.1 c.requires.2 (sym c.name_meant.ensures ∙ ap name_of c.in-Some.is) c.if-n-name.false c.get32-head.ensures c.put32.ensures c.put32-2.ensures
