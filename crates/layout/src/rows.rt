@@ -25,13 +25,6 @@ pub fn at_most(n: u32, limit: u32) -> u32
     if n <= limit { n } else { limit }
 }
 
-// A number as a place.
-pub fn wide(n: u32) -> usize
-    ensures { result ≡ n }
-{
-    n as usize
-}
-
 // The words are written one after the other, the first at `at`.
 pub fn put_words<const N: usize>(store: &mut [u8], at: usize, words: [u32; N])
     requires { at + 4 * N ≤ length store.old }

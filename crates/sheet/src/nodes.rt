@@ -4,7 +4,7 @@ ghost use Rattle.spec.specs.Sheet.{number, wrong_kind, node};
 ghost use Rattle.sheet.specs.Nodes.{got_kind, got_node, FormedNode};
 
 use crate::faults::{Fault, Refused};
-use crate::kinds::flags_of;
+use crate::kinds::{flags_of, text_rule_of};
 use crate::position::{Position, Span};
 use module::SyntaxKind;
 
@@ -49,7 +49,7 @@ impl Position {
         let (to, fourth) = third.number(s, b"to=", Fault::WrongRange, from, u32::MAX)?;
         let (flag, fifth) = fourth.number(s, b"flag=", Fault::WrongFlag, 0, flags_of(kind))?;
         let kids = fifth.kids(s, nodes)?;
-        let text = kids.after().text(s, kind, flag)?;
+        let text = kids.after().text(s, text_rule_of(kind), flag)?;
         Ok(Node {
             kind,
             from,

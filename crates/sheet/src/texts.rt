@@ -3,17 +3,15 @@
 // a judged text to be safe.
 ghost use Rattle.std.specs.Prelude.{◌≡◌, ◌+◌, ◌*◌, ◌/◌, ◌≤◌, ◌<◌, true, not, length, position};
 ghost use Rattle.words.specs.Runs.{splice};
-ghost use Rattle.spec.specs.Kinds.{kind_of, digits};
+ghost use Rattle.spec.specs.Kinds.{digits};
 ghost use Rattle.spec.specs.Sheet.{hex, all_digits, is_empty, is_float, text_fits, wrong_text, field};
-ghost use Rattle.module.specs.SyntaxKinds.{number_of_syntax};
 ghost use Rattle.sheet.specs.Rules.{rule_of};
 ghost use Rattle.sheet.specs.Texts.{is_hex, digit_of, decoded, got_text, TextInside};
 ghost use Rattle.sheet.specs.Verdicts.{got_span, FormedIn};
 
 use crate::faults::{Fault, Refused};
-use crate::kinds::{TextRule, text_rule_of};
+use crate::kinds::TextRule;
 use crate::position::{Position, Span};
-use module::SyntaxKind;
 
 fn is_hex(c: u8) -> bool
     ensures { result ≡ is_hex c }
@@ -131,11 +129,11 @@ impl Position {
         })
     }
 
-    // The text here, of a node of a kind and with a flag.
-    pub(crate) fn text(self, s: &[u8], kind: SyntaxKind, flag: u32) -> Result<Span, Refused>
+    // The text here, of a node whose kind has the rule, and with a flag.
+    pub fn text(self, s: &[u8], rule: TextRule, flag: u32) -> Result<Span, Refused>
         requires { self.at ≤ length s.now }
-        ensures result_value { got_span decoded s.now result ≡ field "text=" hex wrong_text (text_fits (kind_of (number_of_syntax kind)).text flag) s.now self.at }
-        ensures formed_in { FormedIn hex decoded (text_fits (kind_of (number_of_syntax kind)).text flag) s.now result }
+        ensures result_value { got_span decoded s.now result ≡ field "text=" hex wrong_text (text_fits (rule_of rule) flag) s.now self.at }
+        ensures formed_in { FormedIn hex decoded (text_fits (rule_of rule) flag) s.now result }
     {
         let at = self.at;
         let malformed = Refused {
@@ -143,7 +141,7 @@ impl Position {
             at,
         };
         let text = self.text_line(s).ok_or(malformed)?;
-        if !fits(text.of(s), text_rule_of(kind), flag) {
+        if !fits(text.of(s), rule, flag) {
             return Err(Refused {
                 why: Fault::WrongText,
                 at,

@@ -36,7 +36,7 @@ pub returns-in_err-kids-clause-result_value : goal.returns-in_err-kids-clause-re
 returns-in_err-kids-clause-result_value c = rw (same_error _ _ c.from_residual-in_err-kids.ensures.1) (node_kids c.args.nodes c.args.i c.args.s.now c.args.self.at (number_of_syntax c.in_ok-kind.kind) c.in_ok-kind.second.at c.in_ok-kind.ensures c.in_ok-from.from c.in_ok-from.third.at c.in_ok-from.ensures c.in_ok-to.to c.in_ok-to.fourth.at c.in_ok-to.ensures c.flags_of.result c.flags_of.ensures c.in_ok-flag.flag c.in_ok-flag.fifth.at c.in_ok-flag.ensures _ _ c.in_err-kids.ensures.result_value)
 
 pub returns-in_err-text-clause-result_value : goal.returns-in_err-text-clause-result_value
-returns-in_err-text-clause-result_value c = rw (same_error _ _ c.from_residual-in_err-text.ensures.1) (node_text c.args.nodes c.args.i c.args.s.now c.args.self.at (number_of_syntax c.in_ok-kind.kind) c.in_ok-kind.second.at c.in_ok-kind.ensures c.in_ok-from.from c.in_ok-from.third.at c.in_ok-from.ensures c.in_ok-to.to c.in_ok-to.fourth.at c.in_ok-to.ensures c.flags_of.result c.flags_of.ensures c.in_ok-flag.flag c.in_ok-flag.fifth.at c.in_ok-flag.ensures (kids_of (span_of c.args.s.now c.in_ok-kids.kids)) c.after.result.at (rw (c.after.ensures) c.in_ok-kids.ensures.result_value) _ _ c.in_err-text.ensures.result_value)
+returns-in_err-text-clause-result_value c = rw (same_error _ _ c.from_residual-in_err-text.ensures.1) (node_text c.args.nodes c.args.i c.args.s.now c.args.self.at (number_of_syntax c.in_ok-kind.kind) c.in_ok-kind.second.at c.in_ok-kind.ensures c.in_ok-from.from c.in_ok-from.third.at c.in_ok-from.ensures c.in_ok-to.to c.in_ok-to.fourth.at c.in_ok-to.ensures c.flags_of.result c.flags_of.ensures c.in_ok-flag.flag c.in_ok-flag.fifth.at c.in_ok-flag.ensures (kids_of (span_of c.args.s.now c.in_ok-kids.kids)) c.after.result.at (rw (c.after.ensures) c.in_ok-kids.ensures.result_value) _ _ (rw c.text_rule_of.ensures at c.in_err-text.ensures.result_value))
 
 pub returns-clause-result_value : goal.returns-clause-result_value
-returns-clause-result_value c = node_read c.args.nodes c.args.i c.args.s.now c.args.self.at (number_of_syntax c.in_ok-kind.kind) c.in_ok-kind.second.at c.in_ok-kind.ensures c.in_ok-from.from c.in_ok-from.third.at c.in_ok-from.ensures c.in_ok-to.to c.in_ok-to.fourth.at c.in_ok-to.ensures c.flags_of.result c.flags_of.ensures c.in_ok-flag.flag c.in_ok-flag.fifth.at c.in_ok-flag.ensures (kids_of (span_of c.args.s.now c.in_ok-kids.kids)) c.after.result.at (rw (c.after.ensures) c.in_ok-kids.ensures.result_value) (decoded (span_of c.args.s.now c.in_ok-text.text)) c.after-2.result.at (rw (c.after-2.ensures) c.in_ok-text.ensures.result_value)
+returns-clause-result_value c = node_read c.args.nodes c.args.i c.args.s.now c.args.self.at (number_of_syntax c.in_ok-kind.kind) c.in_ok-kind.second.at c.in_ok-kind.ensures c.in_ok-from.from c.in_ok-from.third.at c.in_ok-from.ensures c.in_ok-to.to c.in_ok-to.fourth.at c.in_ok-to.ensures c.flags_of.result c.flags_of.ensures c.in_ok-flag.flag c.in_ok-flag.fifth.at c.in_ok-flag.ensures (kids_of (span_of c.args.s.now c.in_ok-kids.kids)) c.after.result.at (rw (c.after.ensures) c.in_ok-kids.ensures.result_value) (decoded (span_of c.args.s.now c.in_ok-text.text)) c.after-2.result.at (rw (c.after-2.ensures) (rw c.text_rule_of.ensures at c.in_ok-text.ensures.result_value))
