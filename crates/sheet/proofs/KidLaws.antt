@@ -220,13 +220,6 @@ left_short v nodes low l = go (kid_list v)
 pub record Judging (kids : Text) (nodes : ℕ) (low : Bool) (v : Text) : Type 0 where
   pub same : left v nodes low ≡ Option.map (all_below nodes) (kid_list kids)
 
-pub judging_start : (kids : Text) (nodes : ℕ) → Judging kids nodes true kids
-judging_start kids nodes = record { same = go (Option.map (all_below nodes) (kid_list kids)) }
-  where
-    go : (o : Option Bool) → Option.map (λ b. true && b) o ≡ o
-    go none = refl
-    go (some b) = refl
-
 module _ {kids : Text} {nodes : ℕ} {low : Bool} {v : Text} (j : Judging kids nodes low v) (l : nodes ≤ 4294967295) where
   pub judging_malformed : none ≡ short_kids v → none ≡ Option.map (all_below nodes) (kid_list kids)
   judging_malformed f = sym (sym j.same ∙ left_short v nodes low l ∙ rw (← f))

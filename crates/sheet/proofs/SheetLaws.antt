@@ -27,15 +27,6 @@ pub record Reading (s : List ℕ) (start count i at : ℕ) : Type 0 where
   pub inside : at ≤ length s
   pub same : counted (nodes_from count count 0 s start) ≡ passed i (nodes_from (count - i) count i s at)
 
-pub reading_start : (s : List ℕ) (start count : ℕ) → start ≤ length s → Reading s start count 0 start
-reading_start s start count h =
-    let e : count - 0 ≡ count = omega arith in
-    record { inside = h; same = rw e (go (nodes_from count count 0 s start)) }
-  where
-    go : (g : Got (List Node)) → counted g ≡ passed 0 g
-    go (got ns at) = ap (λ (n : ℕ). got n at) (omega arith)
-    go (bad why at) = refl
-
 module _ {s : List ℕ} {start count i at : ℕ} (r : Reading s start count i at) where
   pub reading_end : i ≡ count → got count at ≡ counted (nodes_from count count 0 s start)
   unfolding nodes_from give

@@ -1,5 +1,5 @@
 -- `tree::nodes::Tree::lines` meets its contract.
-use Rattle.tree.proofs.NodeLaws.{never_bad, within, lines_read}
+use Rattle.tree.proofs.NodeLaws.{never_bad, lines_read}
 use native.Mathlib.Omega.{arith}
 use Rattle.tree.proofs.nodes.Tree.lines.Goals as goal
 
