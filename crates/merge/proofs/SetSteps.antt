@@ -23,7 +23,7 @@ use Rattle.open_sets.specs.Entries.{open_set, change}
 use Rattle.open_sets.specs.Run.{put_entry, Entered}
 use Rattle.open_sets.proofs.RankChanges.{in_order_with_value, in_order_with_nested}
 use Rattle.merge.specs.Room.{Resource, exprs, items, names, diagnostics, sets, entries, level, per_node, Price, nothing, price, one_name, one_duplicate, one_set, one_entry}
-use Rattle.merge.specs.Lowers.{Lowered, Lowers}
+use Rattle.merge.specs.Lowers.{Lowered, Lowers, Lowering}
 use Rattle.merge.specs.Merges.{Merges}
 use Rattle.merge.proofs.MergeSteps.{merged_whole}
 
@@ -139,11 +139,11 @@ entry_added {e} {s} {t} d = record {
     go a b c sets = rw a (omega arith)
     go a b c entries = rw a (simp length-append (omega arith))
 
-pub source_added : {nodes : List Node} {w : List Item} (s : SetId) (e : ExprId) {u t : List ℕ} → Entered (source s e) u t → Lowers nodes w w (suc s) 0 one_entry (add_entry (source s e)) u tt t
-source_added s e {u = u} d = merged_whole (λ h. standing_source s e (state_of u) h) (unfold add_entry set_entries ◌>>=◌ asks in omega arith) (entry_added d)
+pub source_added : (s : SetId) (e : ExprId) {u t : List ℕ} → Entered (source s e) u t → Lowering (suc s) (λ _. 0) one_entry (λ _. add_entry (source s e)) u tt t
+source_added s e {u = u} d = record { at = λ nodes w. merged_whole (λ h. standing_source s e (state_of u) h) (unfold add_entry set_entries ◌>>=◌ asks in omega arith) (entry_added d) }
 
-pub dynamic_added : {nodes : List Node} {w : List Item} (s : SetId) (k v : ExprId) {u t : List ℕ} → Entered (dynamic s k v) u t → Lowers nodes w w (suc s) 0 one_entry (add_entry (dynamic s k v)) u tt t
-dynamic_added s k v {u = u} d = merged_whole (λ h. standing_dynamic s k v (state_of u) h) (unfold add_entry set_entries ◌>>=◌ asks in omega arith) (entry_added d)
+pub dynamic_added : (s : SetId) (k v : ExprId) {u t : List ℕ} → Entered (dynamic s k v) u t → Lowering (suc s) (λ _. 0) one_entry (λ _. add_entry (dynamic s k v)) u tt t
+dynamic_added s k v {u = u} d = record { at = λ nodes w. merged_whole (λ h. standing_dynamic s k v (state_of u) h) (unfold add_entry set_entries ◌>>=◌ asks in omega arith) (entry_added d) }
 
 -- ---- an entry that is changed in its place
 changed : (f : MergingEntry → MergingEntry) (i : ℕ) {s t : List ℕ} → (InOrder (entries_of s) (order_of s) → InOrder (set (entries_of s) i (f (entry_at i (state_of s)))) (order_of s)) → Did (change i f) s tt t → Merges nothing (asks (entry_at i) >>= λ e. set_entry i (f e)) s tt t

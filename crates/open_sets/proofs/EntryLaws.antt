@@ -32,7 +32,7 @@ module _ (s : List ℕ) (n i : ℕ) (size : n ≡ length (entries_of s)) where
   unfolding entry_at state_of entries_of
   entry_out h = get_d_past (entry_in s) (cap (word s entry_count) entry_limit) i (source 0 0) (omega (arith, length_rows (entry_in s) (cap (word s entry_count) entry_limit)))
 
-  pub entry_read : (r : EntryRow) (e : Entry) (w : ℕ) → i < n → w ≡ i → r.tag ≡ word s (entries_at + entry_row * w) → r.set ≡ word s (entries_at + entry_row * w + 4) → r.a ≡ word s (entries_at + entry_row * w + 8) → r.b ≡ word s (entries_at + entry_row * w + 12)
-      → r.nested ≡ word s (entries_at + entry_row * w + 16) → r.sort ≡ word s (entries_at + entry_row * w + 20) → r.value ≡ word s (entries_at + entry_row * w + 24) → ReadsEntry r e → entry_with s e ≡ entry_at i (state_of s)
+  pub entry_read : (r : EntryRow) (e : Entry) → i < n → r.tag ≡ word s (entries_at + entry_row * i) → r.set ≡ word s (entries_at + entry_row * i + 4) → r.a ≡ word s (entries_at + entry_row * i + 8) → r.b ≡ word s (entries_at + entry_row * i + 12)
+      → r.nested ≡ word s (entries_at + entry_row * i + 16) → r.sort ≡ word s (entries_at + entry_row * i + 20) → r.value ≡ word s (entries_at + entry_row * i + 24) → ReadsEntry r e → entry_with s e ≡ entry_at i (state_of s)
   unfolding entry_in
-  entry_read r e w h q tag set a b nested sort value reads = rw (entry_in_lem h, reads.same s, tag, set, a, b, nested, sort, value, q)
+  entry_read r e h tag set a b nested sort value reads = rw (entry_in_lem h, reads.same s, tag, set, a, b, nested, sort, value)

@@ -55,13 +55,13 @@ module _ (s : List ℕ) (n i : ℕ) (size : n ≡ length (sets_of s)) where
   unfolding set_at state_of sets_of
   set_out h = get_d_past (set_in s) (cap (word s set_count) set_limit) i plain (omega (arith, length_rows (set_in s) (cap (word s set_count) set_limit)))
 
-  pub set_kind_in : (w v : ℕ) (k : code_kinds.NameKind) → i < n → w ≡ i → v ≡ word s (sets_at + set_row * w + 12) → k ≡ kind_of_number v → kind_of k ≡ (set_at i (state_of s)).name_kind
+  pub set_kind_in : (v : ℕ) (k : code_kinds.NameKind) → i < n → v ≡ word s (sets_at + set_row * i + 12) → k ≡ kind_of_number v → kind_of k ≡ (set_at i (state_of s)).name_kind
   unfolding set_in name_kind_of
-  set_kind_in w v k h q a b = rw (set_in_lem h, b, a, q)
+  set_kind_in v k h a b = rw (set_in_lem h, b, a)
 
-  pub set_pointer_in : (w : ℕ) (p : spec.Pointer) → i < n → w ≡ i → p ≡ pointer_at s (sets_at + set_row * w) → p ≡ (set_at i (state_of s)).pointer
+  pub set_pointer_in : (p : spec.Pointer) → i < n → p ≡ pointer_at s (sets_at + set_row * i) → p ≡ (set_at i (state_of s)).pointer
   unfolding set_in
-  set_pointer_in w p h q a = rw (set_in_lem h, a, q)
+  set_pointer_in p h a = rw (set_in_lem h, a)
 
 -- ---- a set more
 set_own : (t : List ℕ) (k : code_kinds.NameKind) (p : spec.Pointer) (number n : ℕ) → number ≡ number_of_kind k → word t (sets_at + set_row * n + 12) ≡ number → pointer_at t (sets_at + set_row * n) ≡ p → set_in t n ≡ record { pointer = p; name_kind = kind_of k }

@@ -14,7 +14,7 @@ use layout::{at_most, put_words};
 use module::{BindingValue, ExprId};
 use words::{get32, put32};
 
-// A line of its own: that it counts the entries is an equation about their table alone.
+// One line, as `set_count` is: what they equal is said by two definitions.
 #[tactic(auto, using(crate::proofs::EntryLaws::entries_counted))]
 pub fn entry_count(store: &[u8]) -> u32
     requires { Long store.now }

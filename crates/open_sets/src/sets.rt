@@ -15,7 +15,7 @@ use layout::{at_most, counter, get_pointer, put_pointer, put_words};
 use module::{NameKind, Pointer};
 use words::{get32, put32};
 
-// A line of its own: that it counts the sets is an equation about their table alone.
+// One line, as `entry_count` is: what they equal is said by two definitions.
 #[tactic(auto, using(crate::proofs::SetLaws::sets_counted))]
 pub fn set_count(store: &[u8]) -> u32
     requires { Long store.now }

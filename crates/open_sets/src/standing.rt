@@ -49,6 +49,7 @@ pub fn standing_of(e: Entry) -> Standing
     }
 }
 
+// The keys are texts, which are compared last and only where set and class leave it open.
 #[tactic(auto, using(crate::proofs::RunReads::standings_compared))]
 pub fn compare_standings(store: &[u8], x: Standing, y: Standing) -> Ordering
     requires { Long store.now }

@@ -5,4 +5,4 @@ use Rattle.merge.proofs.merge.add_dynamic.Goals as goal
 
 pub returns : goal.returns
 unfolding entry_with
-returns c = record { at = λ nodes w. dynamic_added _ _ _ c.add_entry.ensures }
+returns c = dynamic_added _ _ _ c.add_entry.ensures

@@ -5,4 +5,4 @@ use Rattle.merge.proofs.merge.add_source.Goals as goal
 
 pub returns : goal.returns
 unfolding entry_with
-returns c = record { at = λ nodes w. source_added _ _ c.add_entry.ensures }
+returns c = source_added _ _ c.add_entry.ensures
