@@ -44,8 +44,8 @@ fn integer_expr(row: Row) -> Expr
     }
 }
 
-// The expression that a row is of, but for its items. Its sort stays a number up to here, since a row is a word of bytes
-// that anybody may write, and here alone it becomes an expression.
+// The expression that a row is of, but for its items. Its sort is a number up to here, since rows are bytes that
+// anybody may write; here alone it becomes an enum.
 impl From<Row> for Expr {
     ghost from_gives = { λ row e. Reads row e };
 
@@ -87,7 +87,7 @@ impl From<Row> for Expr {
     }
 }
 
-// An item's tag is such a word too.
+// An item's tag is such a number too.
 impl From<ItemRow> for Item {
     ghost from_gives = { λ row item. ReadsItem row item };
 

@@ -23,7 +23,8 @@ fn wide_within(hi: u32, lo: u32, limit: u64) -> bool
 
 impl CountedStore<'_> {
     // Neighbouring sorts stand in different arms, so that all arms together are one table of jumps.
-    // There are 15 binary operators and 2 unary ones. The sort stays a number: one that is none is what the check is for.
+    // There are 15 binary operators and 2 unary ones. The sort stays a number: one that is none is what the check is
+    // for.
     #[tactic(auto, unfolding(crate::specs::Sound::fields_fit, crate::specs::Sound::name_fits))]
     pub fn fields_fit(&self, e: ExprId, row: Row) -> bool
         ensures { result ≡ fields_fit self.now.store.now e.0 row.sort row.a row.b row.c }

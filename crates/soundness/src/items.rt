@@ -11,8 +11,8 @@ use texts::text_fits;
 use words::get32;
 
 // Lambdas have pattern fields; a let and the two attribute sets have bindings, whose sources of
-// inherits are children; lists and attribute paths have children, and interpolations parts. Sorts and tags stay numbers:
-// one that is none is what the check is for.
+// inherits are children; lists and attribute paths have children, and interpolations parts. Sorts and tags stay
+// numbers: one that is none is what the check is for.
 #[tactic(auto, unfolding(crate::specs::Sound::tag_fits))]
 fn tag_fits(sort: u32, tag: u32) -> bool
     ensures { result ≡ tag_fits sort tag }

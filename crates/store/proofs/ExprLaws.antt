@@ -511,14 +511,6 @@ item_unpushed s i n e h =
     let a : ltb (length (waiting_of s)) waiting_limit ≡ false = le-ltb (length (waiting_of s)) waiting_limit (omega (arith, length_waiting s, cap_over (word s waiting_count) waiting_limit (omega arith))) in
     nothing_done (λ fine. rw a)
 
--- ---- the two places that a move touches
-pub take_inside : (s : List ℕ) (base first count : ℕ) → Long s → first + count ≤ item_limit → count ≡ length (drop base (waiting_of s)) → 0 < count → (waiting_at + item_row * base + 12 * count ≤ length s) × (items_at + item_row * first + 12 * count ≤ length s)
-take_inside s base first count long room size h =
-    let l = length_waiting s in
-    let m = cap_lim (word s waiting_count) waiting_limit in
-    let d = length-drop base (waiting_of s) in
-    (omega arith, omega arith)
-
 -- ---- one step for another that does the same
 -- an expression by a row that says the same in the store
 same_row : (s : List ℕ) (r x : Row) (e : Expr) (p : Pointer) (base : ℕ) → Says x e → HeldRow x s r → take_row (row_made s r p) base (work_of s) ≡ take_row (expr_made s e p) base (work_of s)

@@ -36,11 +36,11 @@ use Rattle.store.proofs.CodedLaws.{NamesCoded, DiagnosticsCoded, exprs_coded, na
 
 -- ---- pointers
 -- a pointer that was written
-pub pointer_put : (s : List ℕ) (at : ℕ) (p : code.Pointer) → at + 12 ≤ length s → Small (p.kind ∷ p.from ∷ p.to ∷ []) → pointer_at (set_all s at (p.kind ∷ p.from ∷ p.to ∷ [])) at ≡ pointer_of p
+pub pointer_put : (s t : List ℕ) (at to : ℕ) (p : code.Pointer) → at ≡ to → at + 12 ≤ length s → Small (p.kind ∷ p.from ∷ p.to ∷ []) → t ≡ set_all s at (p.kind ∷ p.from ∷ p.to ∷ []) → pointer_at t to ≡ pointer_of p
 unfolding pointer_at pointer_of
-pointer_put s at p l small =
+pointer_put s t at to p e l small w =
     let ps = p.kind ∷ p.from ∷ p.to ∷ [] in
-    rw (all_at s at ps small (omega arith) 0 at (omega arith) (omega arith), all_at s at ps small (omega arith) 1 (at + 4) (omega arith) (omega arith), all_at s at ps small (omega arith) 2 (at + 8) (omega arith) (omega arith))
+    rw (w, all_at s at ps small (omega arith) 0 to (omega arith) (omega arith), all_at s at ps small (omega arith) 1 (to + 4) (omega arith) (omega arith), all_at s at ps small (omega arith) 2 (to + 8) (omega arith) (omega arith))
 
 -- ---- names
 length_names : (s : List ℕ) → length (names_of s) ≡ cap (word s name_count) name_limit
@@ -99,7 +99,7 @@ name_put s k p text n fits long e few ht pk pf pt =
     let still : Still s t = still_then {u = u} (still_all s at ws (omega arith) (λ z. omega arith)) (still_then {u = v} (still_all u to ps (omega arith) (λ z. omega arith)) (still_set_word v name_count (n + 1) (omega arith) (λ z. omega arith))) in
     let c : word t name_count ≡ n + 1 = word_set_word_same v name_count (n + 1) (omega arith) (omega arith) in
     let row : (i j : ℕ) → i < 2 → j ≡ at + 4 * i → word t j ≡ get_or ws i 0 = λ i j h q. word_set_word_other v name_count (n + 1) j (inr (omega arith)) ∙ all_other u to ps j (inl (omega arith)) ∙ all_at s at ws (ht, (omega arith, tt)) (omega arith) i j h q in
-    let pointer : pointer_at t (name_pointers_at + pointer_row * n) ≡ pointer_of p = pointer_same v t (name_pointers_at + pointer_row * n) (λ j a b. word_set_word_other v name_count (n + 1) j (inr (omega arith))) ∙ pointer_put u to p (omega arith) (pk, (pf, (pt, tt))) in
+    let pointer : pointer_at t (name_pointers_at + pointer_row * n) ≡ pointer_of p = pointer_same v t (name_pointers_at + pointer_row * n) (λ j a b. word_set_word_other v name_count (n + 1) j (inr (omega arith))) ∙ pointer_put u v to to p refl (omega arith) (pk, (pf, (pt, tt))) refl in
     let names : Same s t names_at (names_at + name_row * n) = λ j a b. word_set_word_other v name_count (n + 1) j (inr (omega arith)) ∙ all_other u to ps j (inl (omega arith)) ∙ all_other s at ws j (inl (omega arith)) in
     let pointers : Same s t name_pointers_at (name_pointers_at + pointer_row * n) = λ j a b. word_set_word_other v name_count (n + 1) j (inr (omega arith)) ∙ all_other u to ps j (inl (omega arith)) ∙ all_other s at ws j (inr (omega arith)) in
     let own : name_in t n ≡ name_with (text_in s text) (kind_of k) (pointer_of p) = name_own s t k (pointer_of p) text number n refl (row 0 (names_at + name_row * n) (omega arith) (omega arith)) (row 1 (names_at + name_row * n + 4) (omega arith) (omega arith)) pointer still in
@@ -168,8 +168,8 @@ diagnostic_put s first second key n long few hk f0 f1 f2 s0 s1 s2 =
       still = still_then {u = u} (still_set_word s a key (omega arith) (λ z. omega arith)) (still_then {u = v} (still_all u (a + 4) fs (omega arith) (λ z. omega arith)) (still_then {u = w} (still_all v (a + 16) ss (omega arith) (λ z. omega arith)) (still_set_word w diagnostic_count (n + 1) (omega arith) (λ z. omega arith))));
       count = word_set_word_same w diagnostic_count (n + 1) (omega arith) (omega arith);
       key_is = word_set_word_other w diagnostic_count (n + 1) a (inr (omega arith)) ∙ all_other v (a + 16) ss a (inl (omega arith)) ∙ all_other u (a + 4) fs a (inl (omega arith)) ∙ word_set_word_same s a key (omega arith) hk;
-      first_is = pointer_same v t (a + 4) (λ j x y. word_set_word_other w diagnostic_count (n + 1) j (inr (omega arith)) ∙ all_other v (a + 16) ss j (inl (omega arith))) ∙ pointer_put u (a + 4) first (omega arith) (f0, (f1, (f2, tt)));
-      second_is = pointer_same w t (a + 16) (λ j x y. word_set_word_other w diagnostic_count (n + 1) j (inr (omega arith))) ∙ pointer_put v (a + 16) second (omega arith) (s0, (s1, (s2, tt)));
+      first_is = pointer_same v t (a + 4) (λ j x y. word_set_word_other w diagnostic_count (n + 1) j (inr (omega arith)) ∙ all_other v (a + 16) ss j (inl (omega arith))) ∙ pointer_put u v (a + 4) (a + 4) first refl (omega arith) (f0, (f1, (f2, tt))) refl;
+      second_is = pointer_same w t (a + 16) (λ j x y. word_set_word_other w diagnostic_count (n + 1) j (inr (omega arith))) ∙ pointer_put v w (a + 16) (a + 16) second refl (omega arith) (s0, (s1, (s2, tt))) refl;
     }
 
 length_diagnostics : (s : List ℕ) → length (diagnostics_of s) ≡ cap (word s diagnostic_count) diagnostic_limit
@@ -222,7 +222,7 @@ lost_put s p n long few hk hf ht =
       };
       still = still_then {u = u} (still_all s at ps (omega arith) (λ z. omega arith)) (still_set_word u lost_count (n + 1) (omega arith) (λ z. omega arith));
       count = word_set_word_same u lost_count (n + 1) (omega arith) (omega arith);
-      is = pointer_same u t at (λ j a b. word_set_word_other u lost_count (n + 1) j (inr (omega arith))) ∙ pointer_put s at p (omega arith) (hk, (hf, (ht, tt)));
+      is = pointer_same u t at (λ j a b. word_set_word_other u lost_count (n + 1) j (inr (omega arith))) ∙ pointer_put s u at at p refl (omega arith) (hk, (hf, (ht, tt))) refl;
     }
 
 pub duplicate_put : (s u t : List ℕ) (first second : Pointer) (given key n m : ℕ) → Held given s key → Long s → n ≡ word s diagnostic_count → n < diagnostic_limit → m ≡ word s lost_count → m < diagnostic_limit

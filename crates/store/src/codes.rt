@@ -1,5 +1,5 @@
-// How an expression lies in its row: docs/STORE.md's sorts. Each sort is written here and read back in decode.rt of rows,
-// a number in between, since a row is a word of bytes that anybody may write.
+// How an expression lies in its row: docs/STORE.md's sorts. A sort is written here alone and read back in decode.rt of
+// rows; in between it is a number, since rows are bytes that anybody may write.
 #![tactic(auto, unfolding(layout::specs::Exprs::expr_of, rows::specs::Decoded::expr_with, rows::specs::Decoded::pattern_with, rows::specs::Decoded::ValidExpr, crate::specs::Codes::sort_for, crate::specs::Codes::literal_sort, crate::specs::Codes::lambda_sort, crate::specs::Codes::select_sort, crate::specs::Codes::ranged, module::specs::Literals::literal_of, module::specs::Ids::expr_of, module::specs::Ids::name_of))]
 
 ghost use Rattle.std.specs.Prelude.{◌≡◌, ◌≤◌, ◌*◌, ◌+◌};

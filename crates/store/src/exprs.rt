@@ -61,7 +61,7 @@ fn waiting_from(store: &[u8], base: u32) -> u32
 }
 
 // The items that wait from `base` on are put in use.
-#[tactic(auto, using(crate::proofs::ExprLaws::took_none))]
+#[tactic(auto, using(crate::proofs::ExprLaws::took_none, crate::proofs::ExprLaws::waiting_left, crate::proofs::ExprLaws::waiting_within))]
 fn take_items(store: &mut [u8], base: u32, count: u32, first: u32)
     requires { Long store.old × (first + count ≤ item_limit) × (count ≡ length (drop base (waiting_of store.old))) }
     ensures { Took base count first store.old store.new }
