@@ -1,7 +1,7 @@
 -- Asking a fit store: what each way through the code comes to. Assumes nothing.
 use mathlib.Core.Path.{◌≡◌, refl, sym, ap, ◌∙◌}
 use mathlib.Core.Bool.{Bool, true, false}
-use mathlib.Core.List.{List, []}
+use mathlib.Core.List.{List}
 use Prim.Native.Nat.{ℕ, ◌*◌, ◌≤◌, ◌<◌}
 use native.Mathlib.Omega.{arith}
 use lib.ListN.{length}
@@ -15,7 +15,6 @@ use Rattle.layout.specs.States.{exprs_of, names_of}
 use Rattle.layout.specs.Keeps.{scopes_in, kept_in}
 use Rattle.soundness.specs.Sound.{condition_of}
 use Rattle.answer.specs.declared.answer.Answer.{Answer}
-use Rattle.answer.specs.declared.answer.Answer.TheVariants.{Withs}
 use Rattle.answer.specs.Answers.{answer_with, maybe_with}
 use Rattle.kept.specs.Answers.{withs_at}
 use Rattle.resolve.specs.Withs.{Lists}
@@ -28,15 +27,6 @@ use Rattle.ask.specs.Finds.{found, Finds, FindsAnswer, FindsReferences}
 use Rattle.nameres.proofs.StepLaws.{exprs_many}
 use Rattle.requests.proofs.StateLaws.{state_passed, names_counted, told_asked}
 use Rattle.std.specs.Prelude as rust
-
--- ---- the list that belongs to an answer
-pub no_list : (a known : Answer) (es : List ExprId) (b : List ℕ) → a ≡ known → with_list (answer_with known es) ≡ [] → Lists (with_list (answer_with a es)) b 0 b
-unfolding set_all
-no_list a known es b q e = rw (q, e) (record { count = refl; wrote = λ _. refl; kept = λ _. refl })
-
-pub withs_list : (a : Answer) (es : List ExprId) (b : List ℕ) (r : ℕ) (b' : List ℕ) → a ≡ Withs → Lists es b r b' → Lists (with_list (answer_with a es)) b r b'
-unfolding with_list answer_with
-withs_list a es b r b' q h = rw q h
 
 -- ---- what was found is told
 module _ {A : Type 0} (c : ℕ → Call) (makes : A → Outcome) (count : A → ℕ) (s b p : List ℕ) (fits : condition_of s ≡ fit) (long : reply_bytes ≤ length p)

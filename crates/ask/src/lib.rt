@@ -26,6 +26,7 @@ use rows::{expr_count, name_count};
 
 // The list that belongs to an answer: how long it is, and the list itself where the buffer has room. Only Withs
 // have one.
+#[tactic(auto, unfolding(spec::specs::Calls::with_list, answer::specs::Answers::answer_with, layout::specs::Rows::set_all))]
 fn list_answer(store: &[u8], e: ExprId, a: Answer, buffer: &mut [u8]) -> u32
     requires { Long store.now }
     ensures { Lists (with_list (answer_with a (withs_at (scopes_in store.now) e.0))) buffer.old result buffer.new }

@@ -4,22 +4,21 @@ use mathlib.Core.Path.{◌≡◌, refl, sym, ap, ◌∙◌}
 use mathlib.Core.Bool.{Bool, true, false}
 use mathlib.Core.List.{List, []}
 use mathlib.Core.Option.{none, some}
-use Prim.Native.Nat.{ℕ, ◌+◌, ◌*◌, ◌≤◌, ◌<◌}
+use Prim.Native.Nat.{ℕ, ◌*◌, ◌≤◌, ◌<◌}
 use native.Mathlib.Nat.{zero-add}
 use native.Mathlib.Omega.{arith}
 use lib.ListN.{length}
 use lib.Dec.{ltb}
-use borrow.Author.Tests.{le-ltb, lt-ltb, ltb-false, le-leb, lt-leb}
+use borrow.Author.Tests.{le-ltb, ltb-false, le-leb, lt-leb}
 use Rattle.words.specs.Equality.{equalb}
 use Rattle.spec.specs.Basics.{Text, ExprId}
 use Rattle.spec.specs.Module.{Module}
 use Rattle.spec.specs.Scopes.{expr_at, name_at}
 use Rattle.spec.specs.Answer.{reference_text}
-use Rattle.spec.specs.Calls.{Call, change_reference, refusal, accepted, check, reply_of, buffer_of, Place, at_name, at_reference, text_at, or_empty, old_text, new_text, give_moved, in_room, give_text, if_reference, answer_call}
+use Rattle.spec.specs.Calls.{Call, change_reference, refusal, accepted, check, reply_of, buffer_of, Place, at_name, at_reference, text_at, or_empty, old_text, new_text, give_moved, if_reference, answer_call}
 use Rattle.spec.specs.Kept.{Kept, kept_answer, kept_references, resolved_again, moved_by, changed_to, kept_with, changed, kept_moved}
 use Rattle.spec.proofs.general.ListLaws.{get_d_tabulate}
 use Rattle.spec.proofs.change.MovedLaws.{nothing_differs, differs_alike}
-use Rattle.layout.specs.Layout.{room_limit}
 use Rattle.layout.specs.Texts.{text_in, maybe_text}
 use Rattle.layout.specs.States.{exprs_of, names_of, module_in}
 use Rattle.layout.specs.Keeps.{kept_in}
@@ -29,7 +28,7 @@ use Rattle.requests.proofs.StateLaws.{names_counted}
 use Rattle.replies.specs.Replies.{in_bytes}
 use Rattle.change.specs.Judged.{call_at, after, from_text, from_moved, Held, JudgesText, outcome_of, Judges}
 use Rattle.refusals.specs.Numbers.{number_of}
-use Rattle.refusals.specs.declared.refusal.Refusal.TheVariants.{MovedShort, TextTooLong, NoSuchNumber, NotAReference, RoomSpent}
+use Rattle.refusals.specs.declared.refusal.Refusal.TheVariants.{MovedShort, NoSuchNumber, NotAReference}
 use Rattle.replies.specs.declared.Refused.{Refused}
 use Rattle.module.specs.declared.ids.TextId as rust_text_id
 use Rattle.std.specs.Prelude as rust
@@ -52,46 +51,6 @@ module _ (k : Kept) (c : Call) (p : Place) (sets : kept_with k c ≡ changed_to 
 pub moved_none : (k : Kept) (c : Call) → equalb (old_text k.lowered c) (new_text c) ≡ true → kept_moved k c ≡ []
 unfolding kept_moved changed
 moved_none k c h = rw (h, nothing_differs k.lowered (kept_answer k))
-
--- ---- 8 and 27
-module _ (s : List ℕ) (h : ℕ) (t : Text) where
-  pub text_long : 255 < length t → JudgesText s h t (rust.Err (record { 0 = TextTooLong; 1 = 255 }))
-  unfolding give_text check after
-  text_long l =
-      record {
-        comes = λ c old new. rw (new, lt-ltb 255 (length t) l);
-        same = λ q. let z : ◌≡◌ {A = ℕ} 0 1 = cc in absurd (omega arith);
-        other = λ q. let z : ◌≡◌ {A = ℕ} 0 1 = cc in absurd (omega arith);
-      }
-
-  module _ (short : length t ≤ 255) (same : Bool) (compared : same ≡ equalb (text_in s h) t) where
-    pub text_same : same ≡ true → JudgesText s h t (rust.Ok false)
-    unfolding give_text in_room check after
-    text_same q =
-        record {
-          comes = λ c old new. rw (old, new, le-ltb 255 (length t) short, ← compared, q);
-          same = λ _. sym compared ∙ q;
-          other = λ u. let z : ◌≡◌ {A = ℕ} 0 1 = cc in absurd (omega arith);
-        }
-
-    module _ (differs : same ≡ false) (full : Bool) (room : full ≡ ltb room_limit ((kept_in s).spent + length t)) where
-      pub text_full : full ≡ true → JudgesText s h t (rust.Err (record { 0 = RoomSpent; 1 = 0 }))
-      unfolding give_text in_room check after
-      text_full q =
-          record {
-            comes = λ c old new. rw (old, new, le-ltb 255 (length t) short, ← compared, differs, ← room, q);
-            same = λ u. let z : ◌≡◌ {A = ℕ} 0 1 = cc in absurd (omega arith);
-            other = λ u. let z : ◌≡◌ {A = ℕ} 0 1 = cc in absurd (omega arith);
-          }
-
-      pub text_other : full ≡ false → JudgesText s h t (rust.Ok true)
-      unfolding give_text in_room check after
-      text_other q =
-          record {
-            comes = λ c old new. rw (old, new, le-ltb 255 (length t) short, ← compared, differs, ← room, q);
-            same = λ u. let z : ◌≡◌ {A = ℕ} 0 1 = cc in absurd (omega arith);
-            other = λ _. (sym compared ∙ differs, ltb-false room_limit ((kept_in s).spent + length t) (sym room ∙ q));
-          }
 
 -- ---- the call that sets a text at a place
 pub call_new : (p : Place) (t : Text) (bytes reply : ℕ) → new_text (call_at p t bytes reply) ≡ t

@@ -24,6 +24,7 @@ fn lacks_room(store: &[u8], text: &[u8]) -> bool
 }
 
 // Whether the new text is another than the one that is there: 8, then 27, which an equal text never meets.
+#[tactic(auto, unfolding(spec::specs::Calls::give_text, spec::specs::Calls::in_room, spec::specs::Calls::check, crate::specs::Judged::after))]
 pub fn judge_text(store: &[u8], held: TextId, text: &[u8]) -> Result<bool, Refused>
     requires { Long store.now }
     ensures { JudgesText store.now held.0 text.now result }

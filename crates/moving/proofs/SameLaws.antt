@@ -1,7 +1,7 @@
 -- Answers held against each other. Assumes nothing.
 use Rattle.std.specs.Prelude.{if◌then◌else◌}
 use mathlib.Core.Path.{◌≡◌, refl, sym, ap, ◌∙◌}
-use mathlib.Core.Bool.{Bool, true, false, and-true}
+use mathlib.Core.Bool.{and-true}
 use mathlib.Core.List.{List}
 use mathlib.Core.Option.{none, some}
 use Prim.Native.Nat.{ℕ}
@@ -44,25 +44,13 @@ same_here a b = record { says = go a b }
     go Withs (Builtin j) es = refl
     go Withs Withs es = sym (equalb_refl es)
 
--- ---- held against the one that is kept
-module _ (s : List ℕ) (e : ℕ) (a : Answer) (k : rust.Option Answer) (kept : maybe_with k (withs_at (scopes_in s) e) ≡ kept_answer (kept_in s) e) where
-  module _ (before : Answer) (there : k ≡ rust.Some before) where
-    was : kept_answer (kept_in s) e ≡ some (answer_with before (withs_at (scopes_in s) e))
-    unfolding maybe_with
-    was = sym kept ∙ ap (λ (o : rust.Option Answer). maybe_with o (withs_at (scopes_in s) e)) there
-
-    pub kept_same : {r : Bool} → SameHere before a r → r ≡ true → OtherThan e a s rust.None
-    kept_same h q = record { is = rw (was, ← h.says (withs_at (scopes_in s) e), q) }
-
-    pub kept_other : {r : Bool} → SameHere before a r → r ≡ false → OtherThan e a s (rust.Some a)
-    kept_other h q = record { is = rw (was, ← h.says (withs_at (scopes_in s) e), q) }
-
-  pub kept_none : k ≡ rust.None → OtherThan e a s (rust.Some a)
-  unfolding maybe_with same_answer numbers_of equalb
-  kept_none there = record { is = rw (sym kept ∙ ap (λ (o : rust.Option Answer). maybe_with o (withs_at (scopes_in s) e)) there) (go (answer_with a (withs_at (scopes_in s) e))) }
-    where
-      go : (b : spec.Answer) → rust.Some a ≡ (if same_answer none (some b) then rust.None else rust.Some a)
-      go spec.unresolved = refl
-      go (spec.definition x) = refl
-      go (spec.builtin i) = refl
-      go (spec.withs es) = refl
+-- ---- where none is kept
+pub kept_none : (s : List ℕ) (e : ℕ) (a : Answer) (k : rust.Option Answer) → maybe_with k (withs_at (scopes_in s) e) ≡ kept_answer (kept_in s) e → k ≡ rust.None → OtherThan e a s (rust.Some a)
+unfolding maybe_with same_answer numbers_of equalb
+kept_none s e a k kept there = record { is = rw (sym kept ∙ ap (λ (o : rust.Option Answer). maybe_with o (withs_at (scopes_in s) e)) there) (go (answer_with a (withs_at (scopes_in s) e))) }
+  where
+    go : (b : spec.Answer) → rust.Some a ≡ (if same_answer none (some b) then rust.None else rust.Some a)
+    go spec.unresolved = refl
+    go (spec.definition x) = refl
+    go (spec.builtin i) = refl
+    go (spec.withs es) = refl

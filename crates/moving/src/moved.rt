@@ -7,6 +7,7 @@ use answer::Answer;
 use kept::kept_answer;
 use module::ExprId;
 
+#[tactic(auto, unfolding(answer::specs::Answers::maybe_with))]
 pub(crate) fn unless_kept(store: &[u8], e: ExprId, a: Answer) -> Option<Answer>
     requires { Long store.now }
     ensures { OtherThan e.0 a store.now result }

@@ -38,6 +38,7 @@ pub(crate) fn find_name(store: &[u8], x: NameId) -> Named
 }
 
 // Whether an expression is a Reference that bears the old text or the new one.
+#[tactic(auto, unfolding(spec::specs::Moved::bears, layout::specs::Texts::maybe_text))]
 fn bears_either(store: &[u8], e: ExprId, old: TextId, new: &[u8]) -> bool
     requires { Long store.now }
     ensures { result ≡ (bears (text_in store.now old.0) (reference_text (expr_at (module_in store.now) e.0)) || bears new.now (reference_text (expr_at (module_in store.now) e.0))) }
@@ -52,6 +53,7 @@ fn bears_either(store: &[u8], e: ExprId, old: TextId, new: &[u8]) -> bool
 }
 
 // Few bear either text, so that the scopes around the others are not looked at.
+#[tactic(auto, unfolding(spec::specs::Moved::may_move, spec::specs::Moved::bears))]
 pub(crate) fn may_move(store: &[u8], e: ExprId, x: Named, new: &[u8]) -> bool
     requires { Long store.now × About store.now x }
     ensures { result ≡ may_move (module_in store.now) (scopes_in store.now) (at_name x.name.0) new.now e.0 }
