@@ -34,6 +34,7 @@ pub fn reference_count(store: &[u8], x: NameId) -> u32
 }
 
 // The i-th of them, from 0 on.
+// As `entered_at` reads the names of a scope. One function for both would take five parameters in place of two lines.
 #[tactic(auto, using(crate::proofs::ReferenceLaws::found, crate::proofs::ReferenceLaws::past_found), unfolding(module::specs::Ids::expr_of))]
 pub fn reference_at(store: &[u8], x: NameId, i: u32) -> Option<ExprId>
     requires { Long store.now }

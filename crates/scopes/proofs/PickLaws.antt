@@ -1,10 +1,9 @@
 -- A pass over the items of an expression, which hands on children. Assumes nothing.
 use mathlib.Core.Path.{◌≡◌, sym, ap, subst, ◌∙◌}
 use mathlib.Core.List.{List, [], ◌∷◌}
-use Prim.Native.Nat.{ℕ, ◌+◌, ◌≤◌, ◌<◌}
+use Prim.Native.Nat.{ℕ, ◌+◌, ◌<◌}
 use native.Mathlib.Omega.{arith}
 use lib.ListN.{length, take, get_or}
-use lib.Seq.{take_all}
 use Rattle.spec.specs.Basics.{ExprId, ScopeId}
 use Rattle.layout.specs.Exprs.{Item, child}
 use Rattle.rows.specs.Readers.{items_at_expr, item_at_expr}
@@ -24,6 +23,3 @@ module _ (pass : Pass) {e : ExprId} {scope : ScopeId} {s u : List ℕ} {i n : �
       let same : item_at_expr u e i ≡ item_at_expr s e i = ap (λ (is : List Item). get_or is i (child 0)) (items_walked x.all.wrote x.all.still e) in
       let q' : handed ≡ picked pass (item_at_expr s e i ∷ []) = q ∙ ap (λ (j : Item). picked pass (j ∷ [])) same in
       subst (λ (cs : List ExprId). Follows e scope cs s t) (sym (picked_more pass s e i (omega (arith, h, counted)))) (follows_then x (subst (λ (cs : List ExprId). Follows e scope cs u t) q' y))
-
-  pub items_end : n ≤ i → Follows e scope (picked pass (items_at_expr s e)) s u
-  items_end h = subst (λ (is : List Item). Follows e scope (picked pass is) s u) (take_all i (items_at_expr s e) (omega (arith, h, counted))) x

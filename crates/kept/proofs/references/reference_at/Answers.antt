@@ -8,4 +8,3 @@ in_use-from-requires c = let m = found c.args.store.now c.args.x.0 _ _ c.referen
 
 pub get32-requires : goal.get32-requires
 get32-requires c = let m = found c.args.store.now c.args.x.0 _ _ c.reference_count.ensures c.if-i-reference_count.true in omega (arith, c.in_use-from.ensures.0)
-

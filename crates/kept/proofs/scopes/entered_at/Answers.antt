@@ -8,4 +8,3 @@ in_use-from-requires c = let m = named _ _ _ (below_cap _ _ _ c.entered_count.en
 
 pub get32-requires : goal.get32-requires
 get32-requires c = let m = named _ _ _ (below_cap _ _ _ c.entered_count.ensures c.if-i-entered_count.true) in omega (arith, c.in_use-from.ensures.0)
-

@@ -7,4 +7,3 @@ use Rattle.resolve.proofs.definitions.defined_in.Goals as goal
 pub returns-in-Some : goal.returns-in-Some
 unfolding name_of
 returns-in-Some c = name_found _ _ _ _ c.loop-i.invariant c.loop-i-test.true _ _ c.entered_as.ensures (ap name_of c.in-Some.is)
-

@@ -2,7 +2,7 @@
 use Rattle.layout.specs.Exprs.{pattern}
 use Rattle.rows.specs.Decoded.{pattern_with}
 use Rattle.scopes.proofs.FormLaws.{missing_arm, apply_arm, cond_arm, literal_arm, lambda_arm, let_arm, list_arm, binop_arm, set_arm, unary_arm, reference_arm, select_arm, has_arm, with_arm, assert_arm, string_arm, path_arm}
-use Rattle.scopes.proofs.PickLaws.{items_start, items_turn, items_end}
+use Rattle.scopes.proofs.PickLaws.{items_start, items_turn}
 use Rattle.scopes.proofs.Steps.{child_walked, child_left, follows_then, follows_none}
 use Rattle.scopes.proofs.TraverseLaws.{bindings_walked, lambda_walked, path_walked}
 use Rattle.scopes.specs.Picking.{picked, picks_of}
@@ -114,9 +114,6 @@ walk_items-loop-i-preserved t c =
     items_turn _ c.item_count-i-end.ensures.0 c.loop-i.invariant _ c.loop-i-test.true
     c.pick_item-first.ensures
     (follows_then c.child_if_any.ensures c.child_if_any-in-loop-i.ensures)
-
-pub walk_items-returns : goal.walk_items-returns
-walk_items-returns t c = items_end _ c.item_count-i-end.ensures.0 c.loop-i.invariant c.loop-i-test.false
 
 -- ---- walk_path
 
