@@ -43,8 +43,8 @@ pub fn flatten_paren(store: &[u8], place: Option<NodeId>) -> Option<NodeId>
     cur
 }
 
-// The name of an Ident, where it has one. A flag stays a number, as in the definitions: what it says goes by the kind of its
-// node.
+// The name of an Ident, where it has one. A flag stays a number, as in the definitions: what it says goes by the kind
+// of its node.
 #[tactic(auto, unfolding(layout::specs::Texts::maybe_text))]
 pub fn name_of_ident(store: &[u8], n: NodeId) -> Option<TextId>
     requires { Long store.now }

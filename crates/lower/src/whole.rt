@@ -7,7 +7,6 @@ use module::NodeId;
 use store::set_entry;
 
 // lower: from the root, the node 0, in a store that has no work in it.
-#[tactic(auto, using(crate::proofs::ModuleLaws::lowered_all))]
 pub fn lower(store: &mut [u8])
     requires { Long store.old }
     ensures { LowersAll store.old store.new }
