@@ -6,8 +6,8 @@ use crate::answer::Answer;
 use layout::tables::{ABSENT, NAME_LIMIT};
 use module::NameId;
 
-// The answer that a word stands for. Any number may stand in a store, so every number is turned into an answer, and it is
-// done here alone.
+// The answer that a word stands for. Any number may stand in a store, so every number is turned into an answer, here
+// alone.
 impl From<u32> for Answer {
     ghost from_gives = { λ n a. a ≡ answer_of_word n };
 
@@ -22,8 +22,8 @@ impl From<u32> for Answer {
     }
 }
 
-// The word of an answer, and the mark for one that no row can have. No `From`: an answer has two more numbers, for a host
-// (told.rt), and the name says which one this is.
+// The word of an answer, and the mark for one that no row can have. No `From`: an answer has two more numbers, for a
+// host (told.rt), and the name says which one this is.
 #[tactic(auto, unfolding(crate::specs::Words::answer_word))]
 pub fn answer_word(a: Answer) -> u32
     ensures { result ≡ answer_word a }
