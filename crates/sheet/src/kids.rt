@@ -24,7 +24,7 @@ fn part_end(kids: &[u8]) -> usize
     first_comma(kids).unwrap_or(kids.len())
 }
 
-// No kid has a number of more than 32 bits: such a one is told as the largest.
+// The kid of a part: absent, or its number.
 fn kid_in(part: &[u8]) -> Result<Option<u32>, Malformed>
     ensures { got_kid result ≡ map short_kid (kid part.now) }
 {
@@ -32,6 +32,7 @@ fn kid_in(part: &[u8]) -> Result<Option<u32>, Malformed>
         return Ok(None);
     }
     let n = decimal(part).ok_or(Malformed)?;
+    // No kid has a number of more than 32 bits: such a one is told as the largest.
     Ok(Some(u32::try_from(n).unwrap_or(u32::MAX)))
 }
 
