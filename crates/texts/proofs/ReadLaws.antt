@@ -1,15 +1,15 @@
 -- Where a text lies, and how long it is. Assumes nothing.
-use mathlib.Core.Path.{◌≡◌, refl, sym}
-use mathlib.Core.Bool.{Bool, true, false}
+use mathlib.Core.Path.{◌≡◌}
+use mathlib.Core.Bool.{true, false}
 use mathlib.Core.List.{List}
 use Prim.Native.Nat.{ℕ, ◌+◌, ◌-◌, ◌≤◌}
 use native.Mathlib.Omega.{arith}
-use lib.ListN.{length, take, drop, length-take}
 use borrow.Author.Tests.{le-leb, leb-true}
 use Rattle.words.specs.Runs.{run}
 use Rattle.words.specs.Words.{word}
-use Rattle.layout.specs.Layout.{text_limit, texts_place, texts_at}
+use Rattle.layout.specs.Layout.{text_limit, texts_place, texts_at, Long}
 use Rattle.layout.specs.Texts.{texts_used, text_of, text_in, text_held}
+use Rattle.texts.specs.Reads.{Lies}
 use Rattle.layout.proofs.RowLaws.{cap_le, cap_lim}
 use Rattle.texts.proofs.HeldLaws.{text_held_lem, text_unheld}
 
@@ -32,15 +32,22 @@ module _ (s : List ℕ) (k : ℕ) where
     unfolding text_held
     held_inside = omega (arith, leb-true (k + 4 + word s (texts_at + k)) (texts_used s) h, used_few s)
 
-    -- and these are lent
-    pub lent_is : (n : ℕ) → n ≡ word s (texts_at + k) → take (texts_at + k + 4 + n - (texts_at + k + 4)) (drop (texts_at + k + 4) s) ≡ text_in s k
-    unfolding run
-    lent_is n e = let m : texts_at + k + 4 + n - (texts_at + k + 4) ≡ word s (texts_at + k) = omega arith in rw m (sym (text_held_lem s k h))
+    pub lies_there : Long s → (n : ℕ) → n ≡ word s (texts_at + k) → Lies s k (texts_at + k + 4) (texts_at + k + 4 + n)
+    lies_there l n e =
+        let m : texts_at + k + 4 + n - (texts_at + k + 4) ≡ word s (texts_at + k) = omega (arith, e) in
+        record {
+          ordered = omega arith;
+          inside = omega (arith, l, e, held_inside);
+          short = rw m (omega (arith, held_inside));
+          same = rw m (text_held_lem s k h);
+        }
 
-  pub text_short : length (text_in s k) ≤ text_limit
+  pub lies_nowhere : text_held s k ≡ false → Lies s k 0 0
   unfolding run
-  text_short = go (text_held s k) refl
-    where
-      go : (b : Bool) → text_held s k ≡ b → length (text_in s k) ≤ text_limit
-      go true h = rw (text_held_lem s k h) (simp length-take (omega (arith, held_inside h)))
-      go false h = rw (text_unheld s k h) (omega arith)
+  lies_nowhere h =
+      record {
+        ordered = omega arith;
+        inside = omega arith;
+        short = omega arith;
+        same = text_unheld s k h;
+      }

@@ -1,2 +1,3 @@
+pub mod Reads
 pub mod Fits
 pub mod Adds

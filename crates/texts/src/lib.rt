@@ -11,4 +11,4 @@ mod read;
 
 pub use add::add_text;
 pub use held::{held_text, text_fits};
-pub use read::{compare_texts, text_bytes, text_is, texts_equal};
+pub use read::{compare_texts, text_bytes, text_is, text_range, texts_equal};

@@ -4,28 +4,36 @@ ghost use Rattle.words.specs.Equality.{equalb};
 ghost use Rattle.words.specs.Order.{order};
 ghost use Rattle.layout.specs.Layout.{text_limit, Long};
 ghost use Rattle.layout.specs.Texts.{text_in};
+ghost use Rattle.texts.specs.Reads.{Lies};
 
 use crate::held::text_held;
 use layout::tables::TEXTS;
 use module::TextId;
 use std::cmp::Ordering;
+use std::ops::Range;
 use words::{compare, equal, get32};
 
-// What does not lie within the bytes in use has no bytes. The test is the one of held.rt, so that there is one reading
-// of what is in use. Whoever compares one text with many borrows its bytes, and so finds their place once.
+// Where a text lies. What does not lie within the bytes in use has no bytes. The test is the one of held.rt, so that
+// there is one reading of what is in use.
+pub fn text_range(store: &[u8], t: TextId) -> Range<usize>
+    requires { Long store.now }
+    ensures { Lies store.now t.0 result.start result.end }
+{
+    if !text_held(store, t.0) {
+        return 0..0;
+    }
+    let place = TEXTS + t.0 as usize;
+    let start = place + 4;
+    start..start + get32(store, place) as usize
+}
+
+// Whoever compares one text with many borrows its bytes, and so finds their place once.
 pub fn text_bytes<'a>(store: &'a [u8], t: TextId) -> &'a [u8]
     requires { Long store.now }
     ensures bytes { result.now ≡ text_in store.now t.0 }
     ensures short { length result.now ≤ text_limit }
 {
-    if text_held(store, t.0) {
-        let place = TEXTS + t.0 as usize;
-        let start = place + 4;
-        let end = start + get32(store, place) as usize;
-        &store[start..end]
-    } else {
-        &[]
-    }
+    &store[text_range(store, t)]
 }
 
 pub fn texts_equal(store: &[u8], a: TextId, b: TextId) -> bool
