@@ -16,8 +16,8 @@ unfoldable pub found : {A : Type 0} → Result A Refused → (A → Outcome) →
 found (Err refused) makes = refusal (number_of refused.0) refused.1
 found (Ok a) makes = makes a
 
--- Whatever length its reply has, the call c asks the fit store s; r was found, with a list of `count`, and the buffer b is
--- b' now, which has the list.
+-- Whatever length its reply has, the call c asks the fit store s; r was found, with a list of `count`, and the buffer b
+-- is b' now, which has the list.
 pub record Finds {A : Type 0} (c : ℕ → Call) (makes : A → Outcome) (count : A → ℕ) (s b : List ℕ) (r : Result A Refused) (b' : List ℕ) : Type 0 where
   pub comes : (reply : ℕ) → own_outcome s (c reply) ≡ found r makes
   pub buffer : b' ≡ buffer_after (found r makes) b

@@ -59,8 +59,8 @@ pub record Settable (p : Place) (t : Text) (bytes n : ℕ) (s : List ℕ) : Type
   pub counted : n ≡ length (moved_by (kept_in s) p t)
   pub fits : 4 * n ≤ bytes
 
--- The call that sets the text t at the place p of a fit store has a reply of any length that is enough, and lends so many
--- bytes for what that moves.
+-- The call that sets the text t at the place p of a fit store has a reply of any length that is enough, and lends so
+-- many bytes for what that moves.
 pub record Judges (p : Place) (t : Text) (bytes : ℕ) (s : List ℕ) (v : Result (Option ℕ) Refused) : Type 0 where
   pub comes : (reply : ℕ) → own_outcome s (call_at p t bytes reply) ≡ outcome_of v (moved_by (kept_in s) p t)
   pub equal : v ≡ Ok None → equalb (text_at (kept_in s).lowered p) t ≡ true

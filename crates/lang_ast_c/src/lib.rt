@@ -1,8 +1,8 @@
 // The five calls as a host links them: the static library liblang_ast_c.a, which hosts get as liblang_ast.a.
 //
-// They repeat lang_ast's, since a crate is a library or a static library and not both (docs/DECISIONS.md, D115): each is
-// the call of that name there, with its promises word for word. The symbols are exported here, and what is proved of every
-// list of calls stands there (lang_ast/proofs/Calls.antt).
+// They repeat lang_ast's, since a crate is a library or a static library and not both (docs/DECISIONS.md, D115): each
+// is the call of that name there, with its promises word for word. The symbols are exported here, and what is proved of
+// every list of calls stands there (lang_ast/proofs/Calls.antt).
 #![tactic(auto)]
 
 ghost use Rattle.std.specs.Prelude.{◌≡◌, length};

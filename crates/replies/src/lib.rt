@@ -12,8 +12,8 @@ use answer::{Answer, answer_number, answer_value};
 use layout::put_words;
 use refusals::Refusal;
 
-// Five words: a shorter reply is not written. A reply is a `&mut [u8]` that C lends: a type that carried its length would
-// have to say whose bytes it holds, a clause for each `reply_bytes ≤ length reply.old` below.
+// Five words: a shorter reply is not written. A reply is a `&mut [u8]` that C lends: a type that carried its length
+// would have to say whose bytes it holds, a clause for each `reply_bytes ≤ length reply.old` below.
 pub const REPLY_BYTES: usize = 20;
 
 // A refusal: its number, which is returned too, and its place.
