@@ -1,3 +1,4 @@
 pub mod JudgeLaws
 pub mod SetLaws
 pub mod MovesLaws
+pub mod CallLaws
