@@ -23,6 +23,7 @@ use Rattle.layout.specs.States.{exprs_of, names_of, module_in}
 use Rattle.layout.specs.Keeps.{kept_in}
 use Rattle.soundness.specs.Sound.{condition_of}
 use Rattle.soundness.proofs.ConditionLaws.{fit_sound}
+use Rattle.moving.specs.Moving.{Refers}
 use Rattle.put_text.specs.Changed.{Changeable, Changes}
 use Rattle.put_text.proofs.ConditionLaws.{changed_sound}
 use Rattle.replies.specs.Replies.{list_of, buffer_after, Told, ToldMoved}
@@ -33,10 +34,14 @@ use Rattle.requests.proofs.StateLaws.{state_passed, names_counted, equal_leaves,
 use Rattle.module.specs.declared.ids.TextId as rust_text_id
 use Rattle.std.specs.Prelude as rust
 
-text_read_lem : (s : List ℕ) (n : ℕ) (m : rust.Option rust_text_id.TextId) → maybe_text s m ≡ reference_text (expr_at (module_in s) n) → (h : ℕ) → m ≡ rust.Some (record { 0 = h })
+-- ---- the text of a Reference
+pub text_read_lem : (s : List ℕ) (n : ℕ) (m : rust.Option rust_text_id.TextId) → maybe_text s m ≡ reference_text (expr_at (module_in s) n) → (h : ℕ) → m ≡ rust.Some (record { 0 = h })
     → reference_text (expr_at (module_in s) n) ≡ some (text_in s h)
 unfolding maybe_text
 text_read_lem s n m says h q = sym says ∙ ap (maybe_text s) q
+
+pub refers_to : (s : List ℕ) (n : ℕ) (m : rust.Option rust_text_id.TextId) → maybe_text s m ≡ reference_text (expr_at (module_in s) n) → (h : ℕ) → m ≡ rust.Some (record { 0 = h }) → Refers n s
+refers_to s n m says h q = record { text = text_in s h; is = text_read_lem s n m says h q }
 
 -- ---- the text of a call that names something there is
 abbrev text_outcome : List ℕ → Call → Outcome
