@@ -7,8 +7,8 @@ use crate::faults::{Fault, Refused, SheetRefused};
 use crate::position::Position;
 use refusals::Refusal;
 
-// The longest sheet, and the most nodes of one. A store has room for as many: the crate layout, which is above this one,
-// has the same number of nodes.
+// The longest sheet, and the most nodes of one. The crate layout, on which this one does not rest, has the same number
+// for the nodes of a store.
 const SHEET_BYTES: usize = 1048576;
 
 const NODE_LIMIT: u32 = 4096;
