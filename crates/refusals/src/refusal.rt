@@ -2,8 +2,8 @@
 ghost use Rattle.std.specs.Prelude.{◌≡◌};
 ghost use Rattle.refusals.specs.Numbers.{number_of};
 
-// In the order of their numbers, which are the variants': those of a sheet's lines and of the walk, 8 of a text, those of a state, 31 to 33 of
-// a value in a line, and 34 of a change.
+// A variant's number is the one that a host is told: those of a sheet's lines and of the walk, 8 of a text, those of a
+// state, 31 to 33 of a value in a line, and 34 of a change.
 #[derive(Clone, Copy, PartialEq, Eq)]
 pub enum Refusal {
     SheetTooLong = 1,
