@@ -8,8 +8,8 @@ use crate::faults::{Fault, Refused};
 // file: it is the first line's, or that of the line after a value that was read. So nobody has to know how a line ends
 // to go on to the next.
 //
-// A place alone, and the readers ask that it lies in the sheet they are given: a walk keeps a position from node to node
-// beside the sheet, and one with the sheet in it would keep the slice twice.
+// A place alone, and the readers ask that it lies in the sheet they are given: a walk keeps a position from node to
+// node beside the sheet, and one with the sheet in it would keep the slice twice.
 #[derive(Clone, Copy)]
 pub struct Position {
     pub at: usize,
