@@ -32,6 +32,7 @@ use Rattle.spec.proofs.reading.Lines.{number_within}
 use Rattle.spec.proofs.general.Sums.{sum_append}
 use Rattle.spec.proofs.room.TextRoom.{text_bytes, node_long}
 use Rattle.std.specs.Prelude as rust
+use Rattle.std.specs.Result.{result_ok}
 use Rattle.sheet.specs.declared.faults.Refused.{Refused}
 use Rattle.intake.specs.Bring.{Within, kids_in, Spans, Rows, RowIn, RowOver, RowBrought, ahead, Bringing, Refuses, NodeIn, Stopped, NodeBrought, Counted, AllIn, Brought}
 use Rattle.intake.specs.declared.bring.Front.{Front}
@@ -89,6 +90,15 @@ below_more a b l (some k ∷ ks) h = go (below_more a b l ks) (ltb k a) refl h
     go : (all_below a ks ≡ true → all_below b ks ≡ true) → (t : Bool) → ltb k a ≡ t → (t && all_below a ks) ≡ true → (ltb k b && all_below b ks) ≡ true
     go f true e q = rw (lt-ltb k b (omega (arith, ltb-true k a e))) (f q)
     go f false e q = cc
+
+-- ---- what `ok` keeps of a reader's answer
+pub was_read : {T E : Type 0} (r : rust.Result T E) (x : T) → rust.Some x ≡ result_ok r → r ≡ rust.Ok x
+was_read (rust.Ok y) x h = cc
+was_read (rust.Err w) x h = let z : ◌≡◌ {A = ℕ} 0 1 = cc in absurd (omega arith)
+
+pub not_read : {T E : Type 0} (r : rust.Result T E) → rust.None ≡ result_ok r → (w : E) × (r ≡ rust.Err w)
+not_read (rust.Ok y) h = let z : ◌≡◌ {A = ℕ} 0 1 = cc in absurd (omega arith)
+not_read (rust.Err w) h = (w, refl)
 
 -- ---- one node more
 -- the node that was read goes after those that were there

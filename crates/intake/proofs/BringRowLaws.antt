@@ -9,7 +9,7 @@ use lib.ListN.{length, get_or}
 use lib.Dec.{ltb}
 use borrow.Author.Tests.{ltb-true, ltb-false}
 use Rattle.words.specs.Runs.{run}
-use Rattle.words.specs.Words.{word, number, set_word}
+use Rattle.words.specs.Words.{word, number}
 use Rattle.module.specs.SyntaxKinds.{number_of_syntax}
 use Rattle.sheet.specs.Nodes.{node_of}
 use Rattle.sheet.specs.declared.nodes.Node as row
@@ -29,24 +29,8 @@ use Rattle.texts.proofs.ReadLaws.{used_is, text_in_lem}
 next_row : (k : ℕ) → nodes_at + node_row * (k + 1) ≡ nodes_at + node_row * k + 24
 next_row k = omega arith
 
-six_words : (s s₁ s₂ s₃ s₄ s₅ u : List ℕ) (at a b c d e f : ℕ)
-    → s₁ ≡ set_word s (at + 4) a → s₂ ≡ set_word s₁ (at + 8) b → s₃ ≡ set_word s₂ (at + 12) c → s₄ ≡ set_word s₃ (at + 16) d
-    → s₅ ≡ set_word s₄ (at + 20) e → u ≡ set_word s₅ (at + 24) f → u ≡ set_all s (at + 4) (a ∷ b ∷ c ∷ d ∷ e ∷ f ∷ [])
-unfolding set_all
-six_words s s₁ s₂ s₃ s₄ s₅ u at a b c d e f e₁ e₂ e₃ e₄ e₅ e₆ =
-    let z₁ : at + 4 + 4 ≡ at + 8 = omega arith in
-    let z₂ : at + 8 + 4 ≡ at + 12 = omega arith in
-    let z₃ : at + 12 + 4 ≡ at + 16 = omega arith in
-    let z₄ : at + 16 + 4 ≡ at + 20 = omega arith in
-    let z₅ : at + 20 + 4 ≡ at + 24 = omega arith in
-    rw (e₆, e₅, e₄, e₃, e₂, e₁, z₁, z₂, z₃, z₄, z₅)
-
-module _ (s s₁ s₂ s₃ s₄ s₅ u : List ℕ) (i a b c d e f : ℕ) (long : Long s) (h : i < node_limit) (small : Small (a ∷ b ∷ c ∷ d ∷ e ∷ f ∷ []))
-    (e₁ : s₁ ≡ set_word s (nodes_at + node_row * i + 4) a) (e₂ : s₂ ≡ set_word s₁ (nodes_at + node_row * i + 8) b) (e₃ : s₃ ≡ set_word s₂ (nodes_at + node_row * i + 12) c)
-    (e₄ : s₄ ≡ set_word s₃ (nodes_at + node_row * i + 16) d) (e₅ : s₅ ≡ set_word s₄ (nodes_at + node_row * i + 20) e) (e₆ : u ≡ set_word s₅ (nodes_at + node_row * i + 24) f) where
-  all : u ≡ set_all s (nodes_at + node_row * i + 4) (a ∷ b ∷ c ∷ d ∷ e ∷ f ∷ [])
-  all = six_words s s₁ s₂ s₃ s₄ s₅ u (nodes_at + node_row * i) a b c d e f e₁ e₂ e₃ e₄ e₅ e₆
-
+module _ (s u : List ℕ) (i a b c d e f : ℕ) (long : Long s) (h : i < node_limit) (small : Small (a ∷ b ∷ c ∷ d ∷ e ∷ f ∷ []))
+    (all : u ≡ set_all s (nodes_at + node_row * i + 4) (a ∷ b ∷ c ∷ d ∷ e ∷ f ∷ [])) where
   at_word : (k p v : ℕ) → k < 6 → nodes_at + node_row * i + 4 + 4 * k ≡ p → get_or (a ∷ b ∷ c ∷ d ∷ e ∷ f ∷ []) k 0 ≡ v → word u p ≡ v
   at_word k p v l q z =
       ap (word u) (sym q) ∙ ap (λ (x : List ℕ). word x (nodes_at + node_row * i + 4 + 4 * k)) all

@@ -1,10 +1,12 @@
 // Brings the nodes of a sheet into the store: their rows, their kids and their texts. Each is appended to those
 // before it, so that what was brought stays as it is.
-ghost use Rattle.std.specs.Prelude.{◌<◌, ◌≤◌};
+ghost use Rattle.std.specs.Prelude.{◌<◌, ◌≤◌, is_some};
 ghost use Rattle.layout.specs.Layout.{node_limit, kid_limit, sheet_text_limit, Long};
+ghost use Rattle.module.specs.SyntaxKinds.{number_of_syntax};
 ghost use Rattle.intake.specs.Bring.{Kids, KidRead, KidsBrought, TextIn, Rows, RowPut, Spans, RowBrought, Bringing, NodeBrought, Counted, AllBrought, Brought};
 
-use crate::nodes::{FLAG, FROM, KIND, TEXT, TO};
+use crate::nodes::KIND;
+use layout::put_words;
 use layout::tables::{
     ABSENT, KID_LIMIT, KIDS, NODE_COUNT, NODE_LIMIT, NODE_ROW, NODES, SHEET_TEXT_LIMIT, TEXTS,
     TEXTS_PLACE,
@@ -69,18 +71,19 @@ fn bring_text(text: &[u8], texts: u32, store: &mut [u8]) -> Option<u32>
     Some((first + 4 + n) as u32)
 }
 
-// The row i after its first word, which is there already, and the first word of the next row.
-fn put_row(store: &mut [u8], i: u32, kind: u32, from: u32, to: u32, flag: u32, text: u32, end: u32)
+// The row of the node i after its first word, which is there already, and the first word of the next row, which lies
+// behind them.
+fn put_row(store: &mut [u8], i: u32, node: Node, text: u32, end: u32)
     requires { Long store.old × (i < node_limit) }
-    ensures { RowPut store.old store.new i kind from to flag text end }
+    ensures { RowPut store.old store.new i (number_of_syntax node.kind) node.from node.to node.flag text end }
 {
     let row = NODES + NODE_ROW * (i as usize);
-    put32(store, row + KIND, kind);
-    put32(store, row + FROM, from);
-    put32(store, row + TO, to);
-    put32(store, row + FLAG, flag);
-    put32(store, row + TEXT, text);
-    put32(store, row + NODE_ROW, end);
+    let kind = node.kind.number();
+    put_words(
+        store,
+        row + KIND,
+        [kind, node.from, node.to, node.flag, text, end],
+    );
 }
 
 // The node i: its kids, its text, and last its row; gives where the next one begins, or none where there is no room.
@@ -90,16 +93,7 @@ fn bring_row(sheet: &[u8], i: u32, node: Node, front: Front, store: &mut [u8]) -
 {
     let end = bring_kids(node.kids.of(sheet), front.kids, store)?;
     let texts = bring_text(node.text.of(sheet), front.texts, store)?;
-    put_row(
-        store,
-        i,
-        node.kind.number(),
-        node.from,
-        node.to,
-        node.flag,
-        front.texts,
-        end,
-    );
+    put_row(store, i, node, front.texts, end);
     Some(Front {
         next: node.next,
         kids: end,
@@ -112,10 +106,8 @@ fn bring_node(sheet: &[u8], nodes: u32, i: u32, front: Front, store: &mut [u8]) 
     requires { Long store.old × ((nodes ≤ node_limit) × ((i < nodes) × Bringing sheet.now nodes i front store.old)) }
     ensures { NodeBrought sheet.now nodes i store.old store.new result }
 {
-    match front.next.node(sheet, nodes, i) {
-        Ok(node) => bring_row(sheet, i, node, front, store),
-        Err(_) => None,
-    }
+    let node = front.next.node(sheet, nodes, i).ok()?;
+    bring_row(sheet, i, node, front, store)
 }
 
 // All nodes, and how many bytes their texts take.
@@ -133,9 +125,9 @@ fn bring_all(sheet: &[u8], nodes: u32, first: Front, store: &mut [u8]) -> Option
 // So many nodes, the first of which stands at `next`. They are counted last, once all of them are there. The bytes of
 // texts in use are set twice: a text past them reads as empty, so first all those that a sheet's texts may take are in
 // use, that each node has its text as soon as it is there, and at the end those that the texts took.
-fn bring_counted(sheet: &[u8], nodes: u32, next: Position, store: &mut [u8]) -> bool
+fn bring_counted(sheet: &[u8], nodes: u32, next: Position, store: &mut [u8]) -> Option<()>
     requires { Long store.old × Counted sheet.now nodes next.at }
-    ensures { Brought sheet.now store.old store.new result }
+    ensures { Brought sheet.now store.old store.new (is_some result) }
 {
     put32(store, TEXTS_PLACE, SHEET_TEXT_LIMIT as u32);
     put32(store, NODES, 0);
@@ -144,14 +136,10 @@ fn bring_counted(sheet: &[u8], nodes: u32, next: Position, store: &mut [u8]) -> 
         kids: 0,
         texts: 0,
     };
-    match bring_all(sheet, nodes, first, store) {
-        None => false,
-        Some(texts) => {
-            put32(store, TEXTS_PLACE, texts);
-            put32(store, NODE_COUNT, nodes);
-            true
-        }
-    }
+    let texts = bring_all(sheet, nodes, first, store)?;
+    put32(store, TEXTS_PLACE, texts);
+    put32(store, NODE_COUNT, nodes);
+    Some(())
 }
 
 // The nodes of a sheet; false where a line is wrong, or where its kids or its texts find no room. Of an accepted
@@ -163,6 +151,6 @@ pub fn bring_nodes(sheet: &[u8], store: &mut [u8]) -> bool
     let start = Position::first();
     match start.number(sheet, b"nodes=", Fault::WrongCount, 1, NODE_LIMIT) {
         Err(_) => false,
-        Ok((nodes, first)) => bring_counted(sheet, nodes, first, store),
+        Ok((nodes, first)) => bring_counted(sheet, nodes, first, store).is_some(),
     }
 }

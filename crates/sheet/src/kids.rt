@@ -77,7 +77,8 @@ fn judge_kids(kids: &[u8], nodes: u32) -> Result<bool, Malformed>
     ensures { verdict_of result ≡ map (all_below nodes) (kid_list kids.now) }
 {
     let mut low = true;
-    // `while let`, since the bytes are no slice of kids: where a kid ends is known once it is read.
+    // `while let` and no `split`, which takes the empty list for one part: `next_kid` says the form of a list for all
+    // who go through one.
     let mut left = kids;
     while let Some((kid, rest)) = next_kid(left)? {
         if !is_below(kid, nodes) {
@@ -95,18 +96,11 @@ impl Position {
         ensures result_value { got_span kids_of s.now result ≡ field "kids=" kid_list wrong_kid (all_below nodes) s.now self.at }
         ensures formed_in { FormedIn kid_list kids_of (all_below nodes) s.now result }
     {
-        let at = self.at;
-        let malformed = Refused {
-            why: Fault::Malformed,
-            at,
-        };
+        let malformed = self.refused(Fault::Malformed);
         let list = self.line(s, b"kids=").ok_or(malformed)?;
         match judge_kids(list.of(s), nodes) {
             Ok(true) => Ok(list),
-            Ok(false) => Err(Refused {
-                why: Fault::WrongKid,
-                at,
-            }),
+            Ok(false) => Err(self.refused(Fault::WrongKid)),
             Err(Malformed) => Err(malformed),
         }
     }

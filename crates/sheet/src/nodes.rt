@@ -26,10 +26,7 @@ impl Position {
         requires { self.at ≤ length s.now }
         ensures { got_kind result ≡ (if eqb i 0 then number "kind=" wrong_kind 21 21 else number "kind=" wrong_kind 1 33) s.now self.at }
     {
-        let wrong = Refused {
-            why: Fault::WrongKind,
-            at: self.at,
-        };
+        let wrong = self.refused(Fault::WrongKind);
         let (number, next) = self.number(s, b"kind=", Fault::WrongKind, 0, u32::MAX)?;
         let kind = SyntaxKind::of(number).ok_or(wrong)?;
         if i == 0 && kind != SyntaxKind::Root {

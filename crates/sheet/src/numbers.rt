@@ -21,15 +21,11 @@ impl Position {
         requires { self.at ≤ length s.now }
         ensures { got_number result ≡ number_of key.now (fault_of why) lo hi s.now self.at }
     {
-        let at = self.at;
-        let malformed = Refused {
-            why: Fault::Malformed,
-            at,
-        };
+        let malformed = self.refused(Fault::Malformed);
         let value = self.line(s, key).ok_or(malformed)?;
         let n = decimal(value.of(s)).ok_or(malformed)?;
         if n < u64::from(lo) || u64::from(hi) < n {
-            return Err(Refused { why, at });
+            return Err(self.refused(why));
         }
         Ok((n as u32, value.after()))
     }

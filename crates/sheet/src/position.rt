@@ -2,9 +2,14 @@
 ghost use Rattle.std.specs.Prelude.{◌≡◌, ◌+◌, ◌<◌, ◌≤◌, length};
 ghost use Rattle.sheet.specs.Lines.{span_of};
 
+use crate::faults::{Fault, Refused};
+
 // The place of the next line. A reader takes it and hands the next one back. None is put together outside of this
 // file: it is the first line's, or that of the line after a value that was read. So nobody has to know how a line ends
 // to go on to the next.
+//
+// A place alone, and the readers ask that it lies in the sheet they are given: a walk keeps a position from node to
+// node beside the sheet, and one with the sheet in it would keep the slice twice.
 #[derive(Clone, Copy)]
 pub struct Position {
     pub at: usize,
@@ -16,6 +21,13 @@ impl Position {
         ensures { result.at ≡ 0 }
     {
         Position { at: 0 }
+    }
+
+    // The line here is refused.
+    pub(crate) fn refused(self, why: Fault) -> Refused
+        ensures { (result.why ≡ why) × (result.at ≡ self.at) }
+    {
+        Refused { why, at: self.at }
     }
 }
 

@@ -7,6 +7,12 @@ use crate::faults::{Fault, Refused, SheetRefused};
 use crate::position::Position;
 use refusals::Refusal;
 
+// The longest sheet, and the most nodes of one. The crate layout, on which this one does not rest, has the same number
+// for the nodes of a store.
+const SHEET_BYTES: usize = 1048576;
+
+const NODE_LIMIT: u32 = 4096;
+
 impl Position {
     // All nodes, of which there are `nodes`, and where the last one ends.
     fn nodes(self, s: &[u8], nodes: u32) -> Result<Position, Refused>
@@ -25,13 +31,13 @@ impl Position {
 pub fn read_sheet(s: &[u8]) -> Result<(u32, Position), SheetRefused>
     ensures { numbered result ≡ answer s.now (read_sheet s.now) }
 {
-    if 1048576 < s.len() {
+    if SHEET_BYTES < s.len() {
         return Err(SheetRefused {
             why: Refusal::SheetTooLong,
             place: 0,
         });
     }
-    let (nodes, first) = Position::first().number(s, b"nodes=", Fault::WrongCount, 1, 4096)?;
+    let (nodes, first) = Position::first().number(s, b"nodes=", Fault::WrongCount, 1, NODE_LIMIT)?;
     let last = first.nodes(s, nodes)?;
     if last.at != s.len() {
         return Err(SheetRefused {

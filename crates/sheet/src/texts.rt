@@ -79,7 +79,7 @@ fn is_float(text: &[u8]) -> bool
     u64::from_be_bytes(bytes) <= 0x7ff0_0000_0000_0000
 }
 
-// Whether a text fits its kind's rule.
+// Whether a text fits its kind's rule. A flag is a number, as in the definitions: what it says depends on the kind.
 fn fits(text: &[u8], rule: TextRule, flag: u32) -> bool
     ensures { result ≡ text_fits (rule_of rule) flag (decoded text.now) }
 {
@@ -135,17 +135,10 @@ impl Position {
         ensures result_value { got_span decoded s.now result ≡ field "text=" hex wrong_text (text_fits (rule_of rule) flag) s.now self.at }
         ensures formed_in { FormedIn hex decoded (text_fits (rule_of rule) flag) s.now result }
     {
-        let at = self.at;
-        let malformed = Refused {
-            why: Fault::Malformed,
-            at,
-        };
+        let malformed = self.refused(Fault::Malformed);
         let text = self.text_line(s).ok_or(malformed)?;
         if !fits(text.of(s), rule, flag) {
-            return Err(Refused {
-                why: Fault::WrongText,
-                at,
-            });
+            return Err(self.refused(Fault::WrongText));
         }
         Ok(text)
     }

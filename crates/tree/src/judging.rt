@@ -9,15 +9,20 @@ use crate::walk::Parent;
 use refusals::Refusal;
 use sheet::{Position, SheetRefused, read_sheet};
 
-// The tree of accepted lines. Root is at depth 1 and the deepest node at 256, so 255 levels are left
-// below Root. Refusal 7: a node that the walk did not meet, the first of which is told.
+// Root is at depth 1, and the deepest node at 256.
+const LEVELS_BELOW_ROOT: u32 = 255;
+
+// The tree of accepted lines. Refusal 7: a node that the walk did not meet, the first of which is told.
 fn judge_tree(s: &[u8], nodes: u32, first: Position) -> Result<(), SheetRefused>
     requires { Nodes s.now nodes first }
     ensures { told s.now result ≡ judge s.now }
 {
     let tree = Tree { sheet: s, nodes };
     let root = tree.lines(0, first);
-    let top = Parent { node: 0, left: 255 };
+    let top = Parent {
+        node: 0,
+        left: LEVELS_BELOW_ROOT,
+    };
     let front = tree.walk(top, root)?;
     let next = front.highest as usize + 1;
     if next != nodes as usize {

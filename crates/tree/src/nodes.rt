@@ -38,6 +38,9 @@ impl<'a> Tree<'a> {
     }
 }
 
+// The functions on a list each ask for `Kids`: a struct around the bytes with it as a ghost field would ask for it once,
+// but be made anew from each kid's rest.
+
 // The first kid of a list, which may be absent, and the list after it. A list in an accepted sheet has the right form.
 pub fn first_kid(kids: &[u8]) -> Option<(Option<u32>, &[u8])>
     requires { Kids kids.now }

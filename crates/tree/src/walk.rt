@@ -108,7 +108,8 @@ impl Tree<'_> {
         requires { Kids kids.now × ((all_below self.nodes (kids_in kids.now) ≡ true) × TodoStands self.sheet.now todo) }
         ensures { Walks self.entry.sheet.now (kids_walk self.entry.sheet.now parent.left parent.node todo (kids_in kids.now)) result }
     {
-        // `while let`, since the bytes are no slice of kids: where a kid ends is known once it is read.
+        // `while let` and no `split`, which takes the empty list for one part: `next_kid` says the form of a list for
+        // all who go through one.
         while let Some((kid, rest)) = first_kid(kids) {
             todo = self.walk_kid(parent, kid, todo)?;
             kids = rest;

@@ -8,4 +8,4 @@ returns-in_err-texts c =
 
 pub returns : goal.returns
 returns c =
-    row_brought _ _ _ _ _ _ _ _ _ _ c.requires.0 c.requires.1.0 c.requires.1.1.1 (rw c.of.ensures at c.in_ok-end.ensures) (rw c.of-2.ensures at c.in_ok-texts.ensures) (rw c.number.ensures at c.put_row.ensures)
+    row_brought _ _ _ _ _ _ _ _ _ _ c.requires.0 c.requires.1.0 c.requires.1.1.1 (rw c.of.ensures at c.in_ok-end.ensures) (rw c.of-2.ensures at c.in_ok-texts.ensures) c.put_row.ensures

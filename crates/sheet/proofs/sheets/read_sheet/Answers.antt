@@ -8,8 +8,8 @@ use Rattle.sheet.proofs.NodeLaws.{number_inside}
 use Rattle.sheet.proofs.SheetLaws.{sheet_long, sheet_count, sheet_node, sheet_more, sheet_whole, numbered_is}
 use Rattle.sheet.proofs.sheets.read_sheet.Goals as goal
 
-pub returns-then-s-gt1048576 : goal.returns-then-s-gt1048576
-returns-then-s-gt1048576 c = sheet_long c.args.s.now c.if-s-gt1048576.true
+pub returns-then-s-gt-SHEET_BYTES : goal.returns-then-s-gt-SHEET_BYTES
+returns-then-s-gt-SHEET_BYTES c = sheet_long c.args.s.now c.if-s-gt-SHEET_BYTES.true
 
 pub returns-in_err-nodes : goal.returns-in_err-nodes
 returns-in_err-nodes c =

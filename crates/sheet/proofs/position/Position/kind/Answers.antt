@@ -15,12 +15,13 @@ returns-in_err-number c = rw (same_error _ _ c.from_residual.ensures.1) (kind_ba
 pub returns-in_err-kind : goal.returns-in_err-kind
 returns-in_err-kind c =
     let p = nothing _ _ _ c.in_err-kind.ensures.value in
-    rw (same_error _ _ c.from_residual-in_err-kind.ensures.1, p.1) (kind_none _ _ _ _ _ c.in_ok-number.ensures (sym c.of.ensures ∙ p.0))
+    rw (same_error _ _ c.from_residual-in_err-kind.ensures.1, p.1, c.refused-wrong.ensures.0, c.refused-wrong.ensures.1) (kind_none _ _ _ _ _ c.in_ok-number.ensures (sym c.of.ensures ∙ p.0))
 
 pub returns-then-ne : goal.returns-then-ne
 returns-then-ne c =
-    kind_not_root _ _ _ _ _ c.in_ok-number.ensures c.in_ok-kind.kind (sym c.of.ensures ∙ c.in_ok-kind.ensures.ok_part) c.if-i-eq0.true
-    (same_false the_type c.in_ok-kind.kind Root (not-true _ (sym c.if-ne.ensures)))
+    rw (c.refused-wrong.ensures.0, c.refused-wrong.ensures.1)
+    (kind_not_root _ _ _ _ _ c.in_ok-number.ensures c.in_ok-kind.kind (sym c.of.ensures ∙ c.in_ok-kind.ensures.ok_part) c.if-i-eq0.true
+    (same_false the_type c.in_ok-kind.kind Root (not-true _ (sym c.if-ne.ensures))))
 
 pub returns : goal.returns
 returns c = elim c.else-i-eq0.branch [
