@@ -212,11 +212,8 @@ module _ (s : List ℕ) (n e : ℕ) (size : n ≡ length (exprs_of s)) where
         let p : exprs_at + expr_row * (e + 1) ≡ exprs_at + expr_row * e + 20 = omega arith in
         rw (items_in_lem h, p, ← b, ← d, ← a, ← c)
 
-    pub items_few : end ≤ first → Covers s e (record { first = first; count = 0 })
-    items_few l = let z : end - first ≡ 0 = omega arith in record { few = omega (arith, cap_lim u item_limit); same = rw z at items_are }
-
-    pub items_some : first < end → Covers s e (record { first = first; count = end - first })
-    items_some l = record { few = omega (arith, cap_lim v item_limit); same = items_are }
+    pub items_some : Covers s e (record { first = first; count = end - first })
+    items_some = record { few = omega (arith, cap_lim u item_limit, cap_lim v item_limit); same = items_are }
 
 pub covers_count : (s : List ℕ) (e : ℕ) (x : Items) → Covers s e x → (x.count ≡ length (items_at_expr s e)) × (x.count ≤ item_limit)
 covers_count s e x h = (rw (h.same, length_rows (λ k. item_in s (x.first + k)) x.count), omega (arith, h.few))

@@ -12,11 +12,11 @@ ghost use Rattle.rows.specs.Readers.{items_at_expr, item_at_expr, maybe_pointer_
 use crate::read_counts::expr_count;
 use crate::row::{ItemRow, Row};
 use layout::tables::{EXPR_POINTERS, EXPR_ROW, EXPRS, ITEM_LIMIT, ITEM_ROW, ITEMS, POINTER_ROW};
-use layout::{at_most, get_pointer};
+use layout::{get_pointer, in_use};
 use module::{Expr, ExprId, Item, Pointer, TextId};
 use words::get32;
 
-// The sort of a Reference.
+// The sort of a Reference. Here and in store it is compared as a number, since of the row only the text is wanted.
 pub const REFERENCE: u32 = 21;
 
 // Where the items of an expression lie in their table, and how many there are.
@@ -36,13 +36,7 @@ pub fn read_expr(store: &[u8], e: ExprId) -> Expr
     if expr_count(store) <= n {
         return Expr::Missing;
     }
-    let at = EXPRS + EXPR_ROW * n as usize;
-    Expr::from(Row {
-        sort: get32(store, at + 4),
-        a: get32(store, at + 8),
-        b: get32(store, at + 12),
-        c: get32(store, at + 16),
-    })
+    Expr::from(Row::at(store, EXPRS + EXPR_ROW * n as usize))
 }
 
 #[tactic(auto, using(crate::proofs::ReadLaws::pointer_out, crate::proofs::ReadLaws::pointer_none, crate::proofs::ReadLaws::pointer_some), unfolding(crate::specs::Readers::maybe_pointer_of))]
@@ -77,7 +71,7 @@ pub fn reference_text(store: &[u8], e: ExprId) -> Option<TextId>
 }
 
 // They end where those of the next row begin.
-#[tactic(auto, using(crate::proofs::ReadLaws::items_none, crate::proofs::ReadLaws::items_few, crate::proofs::ReadLaws::items_some))]
+#[tactic(auto, using(crate::proofs::ReadLaws::items_none, crate::proofs::ReadLaws::items_some))]
 fn items_of(store: &[u8], e: ExprId) -> Items
     requires { Long store.now }
     ensures { Covers store.now e.0 result }
@@ -87,14 +81,11 @@ fn items_of(store: &[u8], e: ExprId) -> Items
         return Items { first: 0, count: 0 };
     }
     let at = EXPRS + EXPR_ROW * n as usize;
-    let first = at_most(get32(store, at), ITEM_LIMIT);
-    let end = at_most(get32(store, at + EXPR_ROW), ITEM_LIMIT);
-    if end <= first {
-        return Items { first, count: 0 };
-    }
+    let first = in_use(store, at, ITEM_LIMIT);
+    let end = in_use(store, at + EXPR_ROW, ITEM_LIMIT);
     Items {
         first,
-        count: end - first,
+        count: end.saturating_sub(first),
     }
 }
 
@@ -112,11 +103,7 @@ fn get_item(store: &[u8], at: usize) -> Item
     requires { at + 12 ≤ length store.now }
     ensures { item_with (text_in store.now) result ≡ item_at store.now at }
 {
-    Item::from(ItemRow {
-        tag: get32(store, at),
-        a: get32(store, at + 4),
-        b: get32(store, at + 8),
-    })
+    Item::from(ItemRow::at(store, at))
 }
 
 // Of an expression's items the one with the number i; out of range the child 0.
