@@ -1,10 +1,10 @@
 // Expressions are read: the row, the pointer, the items.
-ghost use Rattle.std.specs.Prelude.{◌≡◌, ◌+◌, ◌≤◌, length};
+ghost use Rattle.std.specs.Prelude.{◌≡◌, ◌+◌, ◌≤◌, ◌<◌, length};
 ghost use Rattle.spec.specs.Scopes.{made_at, expr_at};
 ghost use Rattle.spec.specs.Answer.{reference_text};
-ghost use Rattle.layout.specs.Layout.{item_limit, Long};
+ghost use Rattle.layout.specs.Layout.{expr_limit, item_limit, Long};
 ghost use Rattle.layout.specs.Texts.{text_in, maybe_text};
-ghost use Rattle.layout.specs.Exprs.{item_at};
+ghost use Rattle.layout.specs.Exprs.{item_at, made_in};
 ghost use Rattle.layout.specs.States.{module_in};
 ghost use Rattle.rows.specs.Decoded.{expr_with, item_with, ValidExpr};
 ghost use Rattle.rows.specs.Readers.{items_at_expr, item_at_expr, maybe_pointer_of, Covers};
@@ -39,7 +39,19 @@ pub fn read_expr(store: &[u8], e: ExprId) -> Expr
     Expr::from(Row::at(store, EXPRS + EXPR_ROW * n as usize))
 }
 
-#[tactic(auto, using(crate::proofs::ReadLaws::pointer_out, crate::proofs::ReadLaws::pointer_none, crate::proofs::ReadLaws::pointer_some), unfolding(crate::specs::Readers::maybe_pointer_of))]
+// The pointer in the row of the expression n. Of sort 0 there is none, whatever its row of pointers holds.
+#[tactic(auto, using(crate::proofs::ReadLaws::row_unpointed, crate::proofs::ReadLaws::row_pointed), unfolding(crate::specs::Readers::maybe_pointer_of))]
+pub fn row_pointer(store: &[u8], n: u32) -> Option<Pointer>
+    requires { Long store.now × (n < expr_limit) }
+    ensures { maybe_pointer_of result ≡ (made_in store.now n).pointer }
+{
+    if get32(store, EXPRS + EXPR_ROW * n as usize + 4) == 0 {
+        return None;
+    }
+    Some(get_pointer(store, EXPR_POINTERS + POINTER_ROW * n as usize))
+}
+
+#[tactic(auto, using(crate::proofs::ReadLaws::pointer_out, crate::proofs::ReadLaws::pointer_in), unfolding(crate::specs::Readers::maybe_pointer_of))]
 pub fn expr_pointer(store: &[u8], e: ExprId) -> Option<Pointer>
     requires { Long store.now }
     ensures { maybe_pointer_of result ≡ (made_at (module_in store.now) e.0).pointer }
@@ -48,10 +60,7 @@ pub fn expr_pointer(store: &[u8], e: ExprId) -> Option<Pointer>
     if expr_count(store) <= n {
         return None;
     }
-    if get32(store, EXPRS + EXPR_ROW * n as usize + 4) == 0 {
-        return None;
-    }
-    Some(get_pointer(store, EXPR_POINTERS + POINTER_ROW * n as usize))
+    row_pointer(store, n)
 }
 
 // The text of a Reference; none of an expression that is no Reference.
