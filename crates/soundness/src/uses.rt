@@ -11,7 +11,8 @@ use module::ExprId;
 use words::get32;
 
 impl CountedStore<'_> {
-    // A scope stands one too high, with 0 for none; an answer is a name from 24 on.
+    // A scope stands one too high, with 0 for none. An answer is a name from 24 on; the numbers below are the other
+    // answers (docs/STORE.md), any of which may stand here.
     #[tactic(auto, unfolding(crate::specs::Sound::use_fits))]
     fn use_fits(&self, e: ExprId) -> bool
         requires { e.0 < self.now.counts.exprs }
