@@ -1,4 +1,6 @@
 // Expressions are appended: a row, its pointer, and the items that waited for it; and a Reference gets another text.
+// With no room alloc_expr and alloc_missing give the limit, a number that no expression has, as alloc_name in names.rt
+// does: a tree that was accepted has room for all, so an Option would ask every caller to look for what doesn't happen.
 ghost use Rattle.std.specs.Prelude.{◌≡◌, true, ◌+◌, ◌*◌, ◌≤◌, ◌<◌, length, drop};
 ghost use Rattle.std.proofs.Math.Option.{none, some};
 ghost use Rattle.words.specs.Words.{word};
@@ -18,7 +20,7 @@ use layout::tables::{
     EXPR_COUNT, EXPR_LIMIT, EXPR_POINTERS, EXPR_ROW, EXPRS, ITEM_LIMIT, ITEM_ROW, ITEMS,
     POINTER_ROW, WAITING, WAITING_COUNT, WAITING_LIMIT,
 };
-use layout::{at_most, counter, put_pointer, put_words};
+use layout::{counter, in_use, put_pointer, put_words};
 use module::{Counter, Expr, ExprId, Item, Pointer, TextId};
 use rows::{ItemRow, REFERENCE, Row, expr_count};
 use words::{get32, move_run, put32};
@@ -29,7 +31,7 @@ pub fn waiting_count(store: &[u8]) -> u32
     requires { Long store.now }
     ensures { result ≡ length (waiting_of store.now) }
 {
-    at_most(get32(store, WAITING_COUNT), WAITING_LIMIT)
+    in_use(store, WAITING_COUNT, WAITING_LIMIT)
 }
 
 // One more item waits.
