@@ -1,5 +1,5 @@
 // Expressions are read: the row, the pointer, the items.
-ghost use Rattle.std.specs.Prelude.{◌≡◌, ◌+◌, ◌≤◌, ◌<◌, length};
+ghost use Rattle.std.specs.Prelude.{◌≡◌, ◌+◌, ◌≤◌, ◌<◌, length, MatchOption};
 ghost use Rattle.spec.specs.Scopes.{made_at, expr_at};
 ghost use Rattle.spec.specs.Answer.{reference_text};
 ghost use Rattle.layout.specs.Layout.{expr_limit, item_limit, Long};
@@ -7,7 +7,7 @@ ghost use Rattle.layout.specs.Texts.{text_in, maybe_text};
 ghost use Rattle.layout.specs.Exprs.{item_at, made_in};
 ghost use Rattle.layout.specs.States.{module_in};
 ghost use Rattle.rows.specs.Decoded.{expr_with, item_with, ValidExpr};
-ghost use Rattle.rows.specs.Readers.{items_at_expr, item_at_expr, maybe_pointer_of, Covers};
+ghost use Rattle.rows.specs.Readers.{NoReference, ReferenceAt, items_at_expr, item_at_expr, maybe_pointer_of, Covers};
 
 use crate::read_counts::expr_count;
 use crate::row::{ItemRow, Row};
@@ -16,8 +16,8 @@ use layout::{get_pointer, in_use};
 use module::{Expr, ExprId, Item, Pointer, TextId};
 use words::get32;
 
-// The sort of a Reference. Here and in store it is compared as a number, since of the row only the text is wanted.
-pub const REFERENCE: u32 = 21;
+// The sort of a Reference. It is compared as a number, since of its row only the text is wanted.
+const REFERENCE: u32 = 21;
 
 // Where the items of an expression lie in their table, and how many there are.
 #[derive(Clone, Copy)]
@@ -63,20 +63,33 @@ pub fn expr_pointer(store: &[u8], e: ExprId) -> Option<Pointer>
     row_pointer(store, n)
 }
 
-// The text of a Reference; none of an expression that is no Reference.
-#[tactic(auto, using(crate::proofs::ReferenceLaws::exprs_cap, crate::proofs::ReferenceLaws::text_past, crate::proofs::ReferenceLaws::text_other, crate::proofs::ReferenceLaws::text_there), unfolding(layout::specs::Texts::maybe_text))]
-pub fn reference_text(store: &[u8], e: ExprId) -> Option<TextId>
+// Where the word stands that is the text of the Reference e; nowhere if e is no Reference.
+#[tactic(auto, using(crate::proofs::ReferenceLaws::exprs_cap, crate::proofs::ReferenceLaws::no_row, crate::proofs::ReferenceLaws::other_row, crate::proofs::ReferenceLaws::reference_row))]
+pub fn reference_place(store: &[u8], e: ExprId) -> Option<usize>
     requires { Long store.now }
-    ensures { maybe_text store.now result ≡ reference_text (expr_at (module_in store.now) e.0) }
+    ensures { MatchOption result (NoReference store.now e.0) (λ at. ReferenceAt store.now e.0 at) }
 {
     let n = e.0;
     if expr_count(store) <= n {
         return None;
     }
-    if get32(store, EXPRS + EXPR_ROW * n as usize + 4) != REFERENCE {
+    let at = EXPRS + EXPR_ROW * n as usize;
+    if get32(store, at + 4) != REFERENCE {
         return None;
     }
-    Some(TextId(get32(store, EXPRS + EXPR_ROW * n as usize + 8)))
+    Some(at + 8)
+}
+
+// The text of a Reference; none of an expression that is no Reference.
+#[tactic(auto, using(crate::proofs::ReferenceLaws::place_within, crate::proofs::ReferenceLaws::no_text, crate::proofs::ReferenceLaws::text_placed), unfolding(layout::specs::Texts::maybe_text))]
+pub fn reference_text(store: &[u8], e: ExprId) -> Option<TextId>
+    requires { Long store.now }
+    ensures { maybe_text store.now result ≡ reference_text (expr_at (module_in store.now) e.0) }
+{
+    match reference_place(store, e) {
+        None => None,
+        Some(at) => Some(TextId(get32(store, at))),
+    }
 }
 
 // They end where those of the next row begin.
