@@ -22,7 +22,7 @@ use layout::tables::{
 };
 use layout::{counter, in_use, put_pointer, put_words};
 use module::{Counter, Expr, ExprId, Item, Pointer, TextId};
-use rows::{ItemRow, REFERENCE, Row, expr_count};
+use rows::{ItemRow, Row, reference_place};
 use words::{get32, move_run, put32};
 
 // How many items wait for their expression.
@@ -146,17 +146,12 @@ pub fn alloc_missing(store: &mut [u8]) -> ExprId
 }
 
 // The expression e, if it is a Reference, has another text.
-#[tactic(auto, using(rows::proofs::ReferenceLaws::exprs_cap, crate::proofs::TextChangeLaws::no_expr))]
+#[tactic(auto, using(rows::proofs::ReferenceLaws::place_within, crate::proofs::TextChangeLaws::no_reference))]
 pub fn set_reference_text(store: &mut [u8], e: ExprId, t: TextId)
     requires { Long store.old }
     ensures { Reworded e.0 t.0 store.old store.new }
 {
-    let n = e.0;
-    if expr_count(store) <= n {
-        return;
+    if let Some(at) = reference_place(store, e) {
+        put32(store, at, t.0);
     }
-    if get32(store, EXPRS + EXPR_ROW * n as usize + 4) != REFERENCE {
-        return;
-    }
-    put32(store, EXPRS + EXPR_ROW * n as usize + 8, t.0);
 }
