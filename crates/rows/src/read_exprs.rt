@@ -17,7 +17,7 @@ use module::{Expr, ExprId, Item, Pointer, TextId};
 use words::get32;
 
 // The sort of a Reference. It is compared as a number, since of its row only the text is wanted.
-const REFERENCE: u32 = 21;
+pub const REFERENCE: u32 = 21;
 
 // Where the items of an expression lie in their table, and how many there are.
 #[derive(Clone, Copy)]

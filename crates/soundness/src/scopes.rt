@@ -29,6 +29,7 @@ impl CountedStore<'_> {
         (0..self.counts.scopes).all(|s| self.scope_fits(ScopeId(s)))
     }
 
+    #[tactic(auto, unfolding(crate::specs::Sound::name_fits))]
     fn entered_fit(&self, n: u32) -> bool
         requires { n ≤ name_limit }
         ensures { result ≡ all_to (λ j. name_fits self.now.store.now (word self.now.store.now (entered_at + 4 * j))) n }

@@ -28,7 +28,7 @@ use Rattle.layout.proofs.Frames.{Same, clear_of, number_kept, wrote_none, text_s
 use Rattle.layout.proofs.WriteLaws.{still_set_word}
 use Rattle.store.specs.TextChanges.{Renamed, where_text, set_if_reference, Reworded}
 use Rattle.rows.specs.Readers.{NoReference, ReferenceAt}
-use Rattle.rows.proofs.ReferenceLaws.{no_text, made_at_lem, reference_made, text_past, text_other}
+use Rattle.rows.proofs.ReferenceLaws.{no_text, made_at_lem, reference_made}
 
 -- how many names there are
 pub names_cap : (s : List ℕ) (n : ℕ) → n ≡ length (names_of s) → n ≡ cap (word s name_count) name_limit
