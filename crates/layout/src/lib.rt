@@ -9,4 +9,4 @@
 mod rows;
 pub mod tables;
 
-pub use rows::{at_most, counter, get_pointer, put_pointer, put_words};
+pub use rows::{at_most, counter, get_pointer, in_use, put_pointer, put_words};

@@ -19,10 +19,19 @@ pub fn counter(store: &[u8], at: usize) -> Counter
 }
 
 // A number, which is at most the limit whatever stands there.
+#[tactic(auto, unfolding(crate::specs::Rows::cap))]
 pub fn at_most(n: u32, limit: u32) -> u32
     ensures { (result ≡ cap n limit) × (result ≤ limit) }
 {
-    if n <= limit { n } else { limit }
+    n.min(limit)
+}
+
+// How many rows of a table are in use: the count at `at`, which is at most its limit whatever stands there.
+pub fn in_use(store: &[u8], at: usize, limit: u32) -> u32
+    requires { at + 4 ≤ length store.now }
+    ensures { (result ≡ cap (word store.now at) limit) × (result ≤ limit) }
+{
+    at_most(get32(store, at), limit)
 }
 
 // The words are written one after the other, the first at `at`.

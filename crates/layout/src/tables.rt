@@ -1,6 +1,7 @@
-// The layout of a store in numbers: offsets and lengths in bytes, limits in rows. These stand here for the code and in
-// specs/Layout.antt for the specs, and nowhere else; docs/STORE.md says what they are for. Tables of rows, counts and
-// numbers of rows are all that a store has, since the host lends its bytes and there is no heap.
+// The layout of a store in numbers: offsets and lengths in bytes, limits in rows. Where the tables lie, and how long
+// their rows are, stands here for the code and in specs/Layout.antt for the specs, and nowhere else; where a word lies
+// within its row stands where the row is read and written. docs/STORE.md says what they are for. Tables of rows, counts
+// and numbers of rows are all that a store has, since the host lends its bytes and there is no heap.
 
 // What is absent, and the number of the empty text.
 pub const ABSENT: u32 = 4294967295;

@@ -2,7 +2,7 @@
 use mathlib.Core.Path.{◌≡◌}
 use mathlib.Core.Bool.{false}
 use mathlib.Core.List.{List, []}
-use mathlib.Core.Option.{none, some}
+use mathlib.Core.Option.{Option, none, some}
 use Prim.Native.Nat.{ℕ, zero, suc, ◌+◌, ◌-◌, ◌*◌, ◌≤◌, ◌<◌}
 use native.Mathlib.Omega.{arith}
 use lib.ListN.{length, get_or}
@@ -164,6 +164,15 @@ module _ {A : Type 0} (f : ℕ → A) (c n i : ℕ) (d : A) (size : n ≡ length
   lacked h = get_d_past f c i d (omega (arith, length_rows f c))
 
 -- ---- expressions
+module _ (s : List ℕ) (e v : ℕ) (at : v ≡ word s (exprs_at + expr_row * e + 4)) where
+  pub row_unpointed : v ≡ 0 → none ≡ (made_in s e).pointer
+  unfolding made_in sort_of pointer_or
+  row_unpointed z = rw (← at, z)
+
+  pub row_pointed : (p : code_pointer.Pointer) → (v ≡ 0 → ⊥) → pointer_of p ≡ pointer_at s (expr_pointers_at + pointer_row * e) → some (pointer_of p) ≡ (made_in s e).pointer
+  unfolding made_in sort_of pointer_or
+  row_pointed p z x = rw (x, ← at, ne_eqb v 0 z)
+
 module _ (s : List ℕ) (n e : ℕ) (size : n ≡ length (exprs_of s)) where
   made_in_lem : e < n → made_at (module_in s) e ≡ made_in s e
   unfolding module_in module_of state_of exprs_of made_at
@@ -193,13 +202,8 @@ module _ (s : List ℕ) (n e : ℕ) (size : n ≡ length (exprs_of s)) where
   pub pointer_out : n ≤ e → none ≡ (made_at (module_in s) e).pointer
   pointer_out h = rw (made_out h)
 
-  pub pointer_none : (v : ℕ) → e < n → v ≡ word s (exprs_at + expr_row * e + 4) → v ≡ 0 → none ≡ (made_at (module_in s) e).pointer
-  unfolding made_in sort_of pointer_or
-  pointer_none v h a z = rw (made_in_lem h, ← a, z)
-
-  pub pointer_some : (v : ℕ) (p : code_pointer.Pointer) → e < n → v ≡ word s (exprs_at + expr_row * e + 4) → (v ≡ 0 → ⊥) → pointer_of p ≡ pointer_at s (expr_pointers_at + pointer_row * e) → some (pointer_of p) ≡ (made_at (module_in s) e).pointer
-  unfolding made_in sort_of pointer_or
-  pointer_some v p h a z x = rw (made_in_lem h, x, ← a, ne_eqb v 0 z)
+  pub pointer_in : (q : Option spec.Pointer) → e < n → q ≡ (made_in s e).pointer → q ≡ (made_at (module_in s) e).pointer
+  pointer_in q h x = rw (made_in_lem h, x)
 
   pub items_none : n ≤ e → Covers s e (record { first = 0; count = 0 })
   unfolding rows_to
@@ -212,11 +216,8 @@ module _ (s : List ℕ) (n e : ℕ) (size : n ≡ length (exprs_of s)) where
         let p : exprs_at + expr_row * (e + 1) ≡ exprs_at + expr_row * e + 20 = omega arith in
         rw (items_in_lem h, p, ← b, ← d, ← a, ← c)
 
-    pub items_few : end ≤ first → Covers s e (record { first = first; count = 0 })
-    items_few l = let z : end - first ≡ 0 = omega arith in record { few = omega (arith, cap_lim u item_limit); same = rw z at items_are }
-
-    pub items_some : first < end → Covers s e (record { first = first; count = end - first })
-    items_some l = record { few = omega (arith, cap_lim v item_limit); same = items_are }
+    pub items_some : Covers s e (record { first = first; count = end - first })
+    items_some = record { few = omega (arith, cap_lim u item_limit, cap_lim v item_limit); same = items_are }
 
 pub covers_count : (s : List ℕ) (e : ℕ) (x : Items) → Covers s e x → (x.count ≡ length (items_at_expr s e)) × (x.count ≤ item_limit)
 covers_count s e x h = (rw (h.same, length_rows (λ k. item_in s (x.first + k)) x.count), omega (arith, h.few))

@@ -18,7 +18,12 @@ use Rattle.layout.specs.Rows.{cap}
 use Rattle.layout.specs.Texts.{text_in}
 use Rattle.layout.specs.Exprs.{Item, wide, pointer_at, pointer_or, float_or, integer_or, expr_of, sort_of, made_in, items_of}
 use Rattle.layout.specs.States.{exprs_of, state_of, module_in}
-use Rattle.layout.proofs.RowLaws.{length_rows, get_d_rows, get_d_past}
+use Rattle.layout.proofs.RowLaws.{length_rows, get_d_rows, get_d_past, cap_lim}
+use Rattle.layout.specs.Layout.{Long}
+use Rattle.rows.specs.Readers.{NoReference, ReferenceAt}
+use native.Mathlib.Omega.{arith}
+use lib.Dec.{ltb}
+use borrow.Author.Tests.{ltb-true, ltb-false}
 
 -- how many expressions there are
 pub length_exprs : (s : List ℕ) → length (exprs_of s) ≡ cap (word s expr_count) expr_limit
@@ -95,3 +100,30 @@ text_other s e n sort en h es ne =
 pub text_there : (s : List ℕ) (e n sort : ℕ) → n ≡ cap (word s expr_count) expr_limit → e < n → sort ≡ word s (exprs_at + expr_row * e + 4) → sort ≡ 21 → reference_text (expr_at (module_in s) e) ≡ some (text_in s (word s (exprs_at + expr_row * e + 8)))
 unfolding expr_at reference_text sort_of
 text_there s e n sort en h es eq = ap (λ (d : Made). reference_text d.expr) (made_at_lem s e (rw (← en) h) ∙ reference_made s e (sym es ∙ eq))
+
+-- ---- where the text stands
+pub no_row : (s : List ℕ) (e n : ℕ) → n ≡ cap (word s expr_count) expr_limit → n ≤ e → NoReference s e
+no_row s e n en h = record { other = λ l _. omega (arith, en, h, l) }
+
+pub other_row : (s : List ℕ) (e sort : ℕ) → sort ≡ word s (exprs_at + expr_row * e + 4) → (sort ≡ 21 → ⊥) → NoReference s e
+unfolding sort_of
+other_row s e sort es ne = record { other = λ _ q. ne (es ∙ q) }
+
+pub reference_row : (s : List ℕ) (e n sort : ℕ) → n ≡ cap (word s expr_count) expr_limit → e < n → sort ≡ word s (exprs_at + expr_row * e + 4) → sort ≡ 21 → ReferenceAt s e (exprs_at + expr_row * e + 8)
+unfolding sort_of
+reference_row s e n sort en h es q = record { used = rw (← en) h; sort = sym es ∙ q; place = refl }
+
+pub place_within : (s : List ℕ) (e at : ℕ) → Long s → ReferenceAt s e at → at + 4 ≤ length s
+place_within s e at l h = omega (arith, l, h.used, h.place, cap_lim (word s expr_count) expr_limit)
+
+pub no_text : (s : List ℕ) (e : ℕ) → NoReference s e → none ≡ reference_text (expr_at (module_in s) e)
+unfolding sort_of
+no_text s e h = go (ltb e (cap (word s expr_count) expr_limit)) refl
+  where
+    go : (b : Bool) → ltb e (cap (word s expr_count) expr_limit) ≡ b → none ≡ reference_text (expr_at (module_in s) e)
+    go true q = let l = ltb-true e (cap (word s expr_count) expr_limit) q in sym (text_other s e _ _ refl l refl (h.other l))
+    go false q = sym (text_past s e _ refl (ltb-false e (cap (word s expr_count) expr_limit) q))
+
+pub text_placed : (s : List ℕ) (e at t : ℕ) → ReferenceAt s e at → t ≡ word s at → some (text_in s t) ≡ reference_text (expr_at (module_in s) e)
+unfolding sort_of
+text_placed s e at t h x = rw (x, h.place) (sym (text_there s e _ _ refl h.used refl h.sort))

@@ -26,6 +26,9 @@ use Rattle.layout.specs.Rows.{cap, rows_to}
 use Rattle.layout.specs.Exprs.{pointer_at, pointer_or, sort_of, made_in}
 use Rattle.layout.specs.States.{name_in, exprs_of, names_of, state_of, module_in}
 use Rattle.layout.proofs.RowLaws.{length_rows}
+use Rattle.module.specs.Ids.{pointer_of}
+use Rattle.module.specs.declared.pointer.Pointer as code_pointer
+use Rattle.rows.specs.Readers.{maybe_pointer_of}
 
 -- the number that a search found
 unfoldable pub as_found : rust.Option ℕ → Option ℕ
@@ -123,11 +126,11 @@ module _ (s : List ℕ) (p : Pointer) (n : ℕ) where
       rw q (ap (last_at p 0 none) (name_rows (name_in s) c))
 
 -- a row's pointer
-module _ (s : List ℕ) (p : Pointer) (n : ℕ) where
-  pub expr_unpointed : (v : ℕ) → v ≡ word s (exprs_at + expr_row * n + 4) → v ≡ 0 → false ≡ points_to p (made_in s n).pointer
-  unfolding made_in sort_of pointer_or points_to
-  expr_unpointed v a z = rw (← a, z)
+module _ (s : List ℕ) (p : Pointer) (n : ℕ) (q : rust.Option code_pointer.Pointer) (row : maybe_pointer_of q ≡ (made_in s n).pointer) where
+  pub expr_unpointed : q ≡ rust.None → false ≡ points_to p (made_in s n).pointer
+  unfolding maybe_pointer_of points_to
+  expr_unpointed e = rw (← row, e)
 
-  pub expr_pointed : (v : ℕ) (b : Bool) → v ≡ word s (exprs_at + expr_row * n + 4) → (v ≡ 0 → ⊥) → b ≡ same_pointer p (pointer_at s (expr_pointers_at + pointer_row * n)) → b ≡ points_to p (made_in s n).pointer
-  unfolding made_in sort_of pointer_or points_to
-  expr_pointed v b a z e = rw (e, ← a, ne_eqb v 0 z)
+  pub expr_pointed : (x : code_pointer.Pointer) (b : Bool) → q ≡ rust.Some x → b ≡ same_pointer p (pointer_of x) → b ≡ points_to p (made_in s n).pointer
+  unfolding maybe_pointer_of points_to
+  expr_pointed x b e h = rw (← row, e, h)

@@ -1,14 +1,15 @@
 -- What is read of a module in a store, and what a number out of range gives.
-use Rattle.std.specs.Prelude.{◌≡◌, List, [], ℕ, ◌+◌, ◌≤◌, length, get_or, ltb, if◌then◌else◌}
+use Rattle.std.specs.Prelude.{◌≡◌, List, [], ℕ, ◌+◌, ◌*◌, ◌≤◌, ◌<◌, length, get_or, ltb, if◌then◌else◌}
 use Rattle.std.proofs.Math.Option.{Option, none, some}
 use Rattle.spec.specs.Basics.{Text, ExprId}
 use Rattle.spec.specs.Module.{Pointer, DuplicateKey, Module}
 use Rattle.module.specs.Ids.{pointer_of}
 use Rattle.rows.specs.declared.read_exprs.Items.{Items}
 use Rattle.rows.specs.declared.read_diagnostics.Diagnostic.{Diagnostic}
-use Rattle.layout.specs.Layout.{item_limit}
-use Rattle.layout.specs.Rows.{rows_to}
-use Rattle.layout.specs.Exprs.{Item, child, item_in, items_of}
+use Rattle.words.specs.Words.{word}
+use Rattle.layout.specs.Layout.{item_limit, expr_limit, expr_count, exprs_at, expr_row}
+use Rattle.layout.specs.Rows.{cap, rows_to}
+use Rattle.layout.specs.Exprs.{Item, child, item_in, items_of, sort_of}
 use Rattle.layout.specs.States.{exprs_of}
 use Rattle.module.specs.declared.pointer.Pointer as rust_pointer
 use Rattle.std.specs.Prelude as rust
@@ -29,6 +30,16 @@ maybe_pointer_of rust.None = none
 pub record Covers (s : List ℕ) (e : ExprId) (x : Items) : Type 0 where
   pub few : x.first + x.count ≤ item_limit
   pub same : items_at_expr s e ≡ rows_to (λ k. item_in s (x.first + k)) x.count
+
+-- e is no Reference, or none that is in use
+pub record NoReference (s : List ℕ) (e : ExprId) : Type 0 where
+  pub other : e < cap (word s expr_count) expr_limit → sort_of s e ≡ 21 → ⊥
+
+-- e is a Reference, whose text stands at this place
+pub record ReferenceAt (s : List ℕ) (e : ExprId) (at : ℕ) : Type 0 where
+  pub used : e < cap (word s expr_count) expr_limit
+  pub sort : sort_of s e ≡ 21
+  pub place : at ≡ exprs_at + expr_row * e + 8
 
 -- ---- diagnostics and the lost list
 unfoldable pub nowhere : Pointer

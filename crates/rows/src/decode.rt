@@ -9,12 +9,17 @@ use module::{
     BindingValue, Expr, ExprId, Item, Literal, NameId, Pattern, TextId, float_of, integer_of,
 };
 
+// The bits of infinity, the highest that a float may have, and the highest integer.
+pub const INFINITY: u64 = 9218868437227405312;
+
+pub const HIGHEST: u64 = i64::MAX as u64;
+
 // Two words as one number, the higher first.
 #[tactic(auto, unfolding(layout::specs::Exprs::wide))]
-fn joined(high: u32, low: u32) -> u64
+pub fn joined(high: u32, low: u32) -> u64
     ensures { result ≡ rows.wide high low }
 {
-    high as u64 * 4294967296 + low as u64
+    (u64::from(high) << 32) + u64::from(low)
 }
 
 // Bits above those of infinity are no float that a sheet can have.
@@ -24,7 +29,7 @@ fn float_expr(row: Row) -> Expr
     ensures { Reads row result }
 {
     let bits = joined(row.a, row.b);
-    if bits <= 9218868437227405312 {
+    if bits <= INFINITY {
         Expr::Literal(Literal::Float(float_of(bits)))
     } else {
         Expr::Missing
@@ -37,7 +42,7 @@ fn integer_expr(row: Row) -> Expr
     ensures { Reads row result }
 {
     let value = joined(row.a, row.b);
-    if value <= 9223372036854775807 {
+    if value <= HIGHEST {
         Expr::Literal(Literal::Integer(integer_of(value)))
     } else {
         Expr::Missing

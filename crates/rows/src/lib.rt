@@ -14,9 +14,12 @@ mod read_names;
 mod row;
 mod source_map;
 
+pub use decode::{HIGHEST, INFINITY, joined};
 pub use read_counts::{diagnostic_count, entry, expr_count, lost_count, name_count};
 pub use read_diagnostics::{Diagnostic, lost_pointer, read_diagnostic};
-pub use read_exprs::{REFERENCE, expr_pointer, item_count, read_expr, read_item, reference_text};
+pub use read_exprs::{
+    REFERENCE, expr_pointer, item_count, read_expr, read_item, reference_place, reference_text,
+};
 pub use read_names::{name_kind_of, name_pointer, name_text};
 pub use row::{ItemRow, Row};
 pub use source_map::{expr_for_node, name_for_node};

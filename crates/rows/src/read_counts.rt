@@ -4,7 +4,7 @@ ghost use Rattle.std.specs.Prelude.{◌≡◌, ◌≤◌, length};
 ghost use Rattle.layout.specs.Layout.{expr_limit, name_limit, diagnostic_limit, Long};
 ghost use Rattle.layout.specs.States.{exprs_of, names_of, diagnostics_of, lost_of, module_in};
 
-use layout::at_most;
+use layout::in_use;
 use layout::tables::{
     DIAGNOSTIC_COUNT, DIAGNOSTIC_LIMIT, ENTRY_PLACE, EXPR_COUNT, EXPR_LIMIT, LOST_COUNT,
     NAME_COUNT, NAME_LIMIT,
@@ -17,7 +17,7 @@ pub fn expr_count(store: &[u8]) -> u32
     requires { Long store.now }
     ensures { (result ≡ length (exprs_of store.now)) × (result ≤ expr_limit) }
 {
-    at_most(get32(store, EXPR_COUNT), EXPR_LIMIT)
+    in_use(store, EXPR_COUNT, EXPR_LIMIT)
 }
 
 #[tactic(auto, using(crate::proofs::ReadLaws::names_counted))]
@@ -25,7 +25,7 @@ pub fn name_count(store: &[u8]) -> u32
     requires { Long store.now }
     ensures { (result ≡ length (names_of store.now)) × (result ≤ name_limit) }
 {
-    at_most(get32(store, NAME_COUNT), NAME_LIMIT)
+    in_use(store, NAME_COUNT, NAME_LIMIT)
 }
 
 #[tactic(auto, using(crate::proofs::ReadLaws::diagnostics_counted))]
@@ -33,7 +33,7 @@ pub fn diagnostic_count(store: &[u8]) -> u32
     requires { Long store.now }
     ensures { (result ≡ length (diagnostics_of store.now)) × (result ≤ diagnostic_limit) }
 {
-    at_most(get32(store, DIAGNOSTIC_COUNT), DIAGNOSTIC_LIMIT)
+    in_use(store, DIAGNOSTIC_COUNT, DIAGNOSTIC_LIMIT)
 }
 
 #[tactic(auto, using(crate::proofs::ReadLaws::lost_counted))]
@@ -41,7 +41,7 @@ pub fn lost_count(store: &[u8]) -> u32
     requires { Long store.now }
     ensures { (result ≡ length (lost_of store.now)) × (result ≤ diagnostic_limit) }
 {
-    at_most(get32(store, LOST_COUNT), DIAGNOSTIC_LIMIT)
+    in_use(store, LOST_COUNT, DIAGNOSTIC_LIMIT)
 }
 
 // The expression of the whole text.

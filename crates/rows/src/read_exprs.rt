@@ -1,22 +1,22 @@
 // Expressions are read: the row, the pointer, the items.
-ghost use Rattle.std.specs.Prelude.{◌≡◌, ◌+◌, ◌≤◌, length};
+ghost use Rattle.std.specs.Prelude.{◌≡◌, ◌+◌, ◌≤◌, ◌<◌, length, MatchOption};
 ghost use Rattle.spec.specs.Scopes.{made_at, expr_at};
 ghost use Rattle.spec.specs.Answer.{reference_text};
-ghost use Rattle.layout.specs.Layout.{item_limit, Long};
+ghost use Rattle.layout.specs.Layout.{expr_limit, item_limit, Long};
 ghost use Rattle.layout.specs.Texts.{text_in, maybe_text};
-ghost use Rattle.layout.specs.Exprs.{item_at};
+ghost use Rattle.layout.specs.Exprs.{item_at, made_in};
 ghost use Rattle.layout.specs.States.{module_in};
 ghost use Rattle.rows.specs.Decoded.{expr_with, item_with, ValidExpr};
-ghost use Rattle.rows.specs.Readers.{items_at_expr, item_at_expr, maybe_pointer_of, Covers};
+ghost use Rattle.rows.specs.Readers.{NoReference, ReferenceAt, items_at_expr, item_at_expr, maybe_pointer_of, Covers};
 
 use crate::read_counts::expr_count;
 use crate::row::{ItemRow, Row};
 use layout::tables::{EXPR_POINTERS, EXPR_ROW, EXPRS, ITEM_LIMIT, ITEM_ROW, ITEMS, POINTER_ROW};
-use layout::{at_most, get_pointer};
+use layout::{get_pointer, in_use};
 use module::{Expr, ExprId, Item, Pointer, TextId};
 use words::get32;
 
-// The sort of a Reference.
+// The sort of a Reference. It is compared as a number, since of its row only the text is wanted.
 pub const REFERENCE: u32 = 21;
 
 // Where the items of an expression lie in their table, and how many there are.
@@ -36,16 +36,22 @@ pub fn read_expr(store: &[u8], e: ExprId) -> Expr
     if expr_count(store) <= n {
         return Expr::Missing;
     }
-    let at = EXPRS + EXPR_ROW * n as usize;
-    Expr::from(Row {
-        sort: get32(store, at + 4),
-        a: get32(store, at + 8),
-        b: get32(store, at + 12),
-        c: get32(store, at + 16),
-    })
+    Expr::from(Row::at(store, EXPRS + EXPR_ROW * n as usize))
 }
 
-#[tactic(auto, using(crate::proofs::ReadLaws::pointer_out, crate::proofs::ReadLaws::pointer_none, crate::proofs::ReadLaws::pointer_some), unfolding(crate::specs::Readers::maybe_pointer_of))]
+// The pointer in the row of the expression n. Of sort 0 there is none, whatever its row of pointers holds.
+#[tactic(auto, using(crate::proofs::ReadLaws::row_unpointed, crate::proofs::ReadLaws::row_pointed), unfolding(crate::specs::Readers::maybe_pointer_of))]
+pub fn row_pointer(store: &[u8], n: u32) -> Option<Pointer>
+    requires { Long store.now × (n < expr_limit) }
+    ensures { maybe_pointer_of result ≡ (made_in store.now n).pointer }
+{
+    if get32(store, EXPRS + EXPR_ROW * n as usize + 4) == 0 {
+        return None;
+    }
+    Some(get_pointer(store, EXPR_POINTERS + POINTER_ROW * n as usize))
+}
+
+#[tactic(auto, using(crate::proofs::ReadLaws::pointer_out, crate::proofs::ReadLaws::pointer_in), unfolding(crate::specs::Readers::maybe_pointer_of))]
 pub fn expr_pointer(store: &[u8], e: ExprId) -> Option<Pointer>
     requires { Long store.now }
     ensures { maybe_pointer_of result ≡ (made_at (module_in store.now) e.0).pointer }
@@ -54,30 +60,40 @@ pub fn expr_pointer(store: &[u8], e: ExprId) -> Option<Pointer>
     if expr_count(store) <= n {
         return None;
     }
-    if get32(store, EXPRS + EXPR_ROW * n as usize + 4) == 0 {
-        return None;
-    }
-    Some(get_pointer(store, EXPR_POINTERS + POINTER_ROW * n as usize))
+    row_pointer(store, n)
 }
 
-// The text of a Reference; none of an expression that is no Reference.
-#[tactic(auto, using(crate::proofs::ReferenceLaws::exprs_cap, crate::proofs::ReferenceLaws::text_past, crate::proofs::ReferenceLaws::text_other, crate::proofs::ReferenceLaws::text_there), unfolding(layout::specs::Texts::maybe_text))]
-pub fn reference_text(store: &[u8], e: ExprId) -> Option<TextId>
+// Where the word stands that is the text of the Reference e; nowhere if e is no Reference.
+#[tactic(auto, using(crate::proofs::ReferenceLaws::exprs_cap, crate::proofs::ReferenceLaws::no_row, crate::proofs::ReferenceLaws::other_row, crate::proofs::ReferenceLaws::reference_row))]
+pub fn reference_place(store: &[u8], e: ExprId) -> Option<usize>
     requires { Long store.now }
-    ensures { maybe_text store.now result ≡ reference_text (expr_at (module_in store.now) e.0) }
+    ensures { MatchOption result (NoReference store.now e.0) (λ at. ReferenceAt store.now e.0 at) }
 {
     let n = e.0;
     if expr_count(store) <= n {
         return None;
     }
-    if get32(store, EXPRS + EXPR_ROW * n as usize + 4) != REFERENCE {
+    let at = EXPRS + EXPR_ROW * n as usize;
+    if get32(store, at + 4) != REFERENCE {
         return None;
     }
-    Some(TextId(get32(store, EXPRS + EXPR_ROW * n as usize + 8)))
+    Some(at + 8)
+}
+
+// The text of a Reference; none of an expression that is no Reference.
+#[tactic(auto, using(crate::proofs::ReferenceLaws::place_within, crate::proofs::ReferenceLaws::no_text, crate::proofs::ReferenceLaws::text_placed), unfolding(layout::specs::Texts::maybe_text))]
+pub fn reference_text(store: &[u8], e: ExprId) -> Option<TextId>
+    requires { Long store.now }
+    ensures { maybe_text store.now result ≡ reference_text (expr_at (module_in store.now) e.0) }
+{
+    match reference_place(store, e) {
+        None => None,
+        Some(at) => Some(TextId(get32(store, at))),
+    }
 }
 
 // They end where those of the next row begin.
-#[tactic(auto, using(crate::proofs::ReadLaws::items_none, crate::proofs::ReadLaws::items_few, crate::proofs::ReadLaws::items_some))]
+#[tactic(auto, using(crate::proofs::ReadLaws::items_none, crate::proofs::ReadLaws::items_some))]
 fn items_of(store: &[u8], e: ExprId) -> Items
     requires { Long store.now }
     ensures { Covers store.now e.0 result }
@@ -87,14 +103,11 @@ fn items_of(store: &[u8], e: ExprId) -> Items
         return Items { first: 0, count: 0 };
     }
     let at = EXPRS + EXPR_ROW * n as usize;
-    let first = at_most(get32(store, at), ITEM_LIMIT);
-    let end = at_most(get32(store, at + EXPR_ROW), ITEM_LIMIT);
-    if end <= first {
-        return Items { first, count: 0 };
-    }
+    let first = in_use(store, at, ITEM_LIMIT);
+    let end = in_use(store, at + EXPR_ROW, ITEM_LIMIT);
     Items {
         first,
-        count: end - first,
+        count: end.saturating_sub(first),
     }
 }
 
@@ -112,11 +125,7 @@ fn get_item(store: &[u8], at: usize) -> Item
     requires { at + 12 ≤ length store.now }
     ensures { item_with (text_in store.now) result ≡ item_at store.now at }
 {
-    Item::from(ItemRow {
-        tag: get32(store, at),
-        a: get32(store, at + 4),
-        b: get32(store, at + 8),
-    })
+    Item::from(ItemRow::at(store, at))
 }
 
 // Of an expression's items the one with the number i; out of range the child 0.

@@ -1,5 +1,6 @@
 // The pointer-to-number side of the source map. No table is kept for it: numbers are given in the order
-// of writing, so that the last writer of a pointer is the highest row that has it.
+// of writing, so that the last writer of a pointer is the highest row that has it. The sides of expressions and of names
+// are alike, but each equation is about a definition of its own, and a row's pointer may be absent for expressions alone.
 ghost use Rattle.std.specs.Prelude.{◌≡◌, ◌<◌};
 ghost use Rattle.spec.specs.Module.{same_pointer, points_to, expr_for_node, name_for_node};
 ghost use Rattle.module.specs.Ids.{expr_of, name_of, pointer_of};
@@ -8,21 +9,21 @@ ghost use Rattle.layout.specs.Exprs.{made_in};
 ghost use Rattle.layout.specs.States.{name_in, module_in};
 
 use crate::read_counts::{expr_count, name_count};
+use crate::read_exprs::row_pointer;
 use layout::get_pointer;
-use layout::tables::{EXPR_POINTERS, EXPR_ROW, EXPRS, NAME_POINTERS, POINTER_ROW};
+use layout::tables::{NAME_POINTERS, POINTER_ROW};
 use module::{ExprId, NameId, Pointer};
-use words::get32;
 
-// Whether the expression n has the pointer p. Of sort 0 there is none, whatever its row of pointers holds.
+// Whether the expression n has the pointer p.
 #[tactic(auto, using(crate::proofs::SourceMapLaws::expr_unpointed, crate::proofs::SourceMapLaws::expr_pointed), unfolding(spec::specs::Module::same_pointer, module::specs::Ids::pointer_of))]
 fn expr_points(store: &[u8], n: ExprId, p: Pointer) -> bool
     requires { Long store.now × (n.0 < expr_limit) }
     ensures { result ≡ points_to (pointer_of p) (made_in store.now n.0).pointer }
 {
-    if get32(store, EXPRS + EXPR_ROW * n.0 as usize + 4) == 0 {
-        return false;
+    match row_pointer(store, n.0) {
+        None => false,
+        Some(q) => p == q,
     }
-    p == get_pointer(store, EXPR_POINTERS + POINTER_ROW * n.0 as usize)
 }
 
 // Whether the name n has the pointer p.

@@ -19,14 +19,9 @@ impl CountedStore<'_> {
         ensures { result ≡ row_fits self.now.store.now e.0 }
     {
         let at = EXPRS + EXPR_ROW * (e.0 as usize);
-        let row = Row {
-            sort: get32(self.store, at + 4),
-            a: get32(self.store, at + 8),
-            b: get32(self.store, at + 12),
-            c: get32(self.store, at + 16),
-        };
+        let row = Row::at(self.store, at);
         let first = get32(self.store, at);
-        let next = get32(self.store, at + 20);
+        let next = get32(self.store, at + EXPR_ROW);
         self.fields_fit(e, row) && self.items_fit(e, row.sort, first, next)
     }
 

@@ -5,24 +5,17 @@ ghost use Rattle.soundness.specs.Sound.{fields_fit};
 
 use crate::counted::CountedStore;
 use module::ExprId;
-use rows::Row;
+use rows::{HIGHEST, INFINITY, Row, joined};
 use texts::text_fits;
 
-// The highest bits that a float may have, and the highest integer.
-const INFINITY: u64 = 9218868437227405312;
-
-const HIGHEST: u64 = i64::MAX as u64;
-
 // A number of two words, the higher first, against a limit of two words.
-#[tactic(auto, unfolding(layout::specs::Exprs::wide))]
 fn wide_within(hi: u32, lo: u32, limit: u64) -> bool
     ensures { result ≡ leb (wide hi lo) limit }
 {
-    (hi as u64) * 4294967296 + (lo as u64) <= limit
+    joined(hi, lo) <= limit
 }
 
 impl CountedStore<'_> {
-    // Neighbouring sorts stand in different arms, so that all arms together are one table of jumps.
     // There are 15 binary operators and 2 unary ones. The sort stays a number: one that is none is what the check is
     // for.
     #[tactic(auto, unfolding(crate::specs::Sound::fields_fit, crate::specs::Sound::name_fits))]
@@ -31,15 +24,12 @@ impl CountedStore<'_> {
     {
         let Row { sort, a, b, c } = row;
         match sort {
-            0 | 8 | 16 | 18 => true,
-            1 | 19 => true,
-            2 | 23 | 25 => (a < e.0) & (b < e.0),
-            26 => (a < e.0) & (b < e.0),
+            0 | 1 | 8 | 16 | 18 | 19 => true,
+            2 | 23 | 25 | 26 => (a < e.0) & (b < e.0),
             3 => (a < e.0) & ((b < e.0) & (c < e.0)),
             4 => wide_within(a, b, INFINITY),
             5 => wide_within(a, b, HIGHEST),
-            6 | 21 => text_fits(self.store, self.counts.texts, a),
-            7 => text_fits(self.store, self.counts.texts, a),
+            6 | 7 | 21 => text_fits(self.store, self.counts.texts, a),
             9 | 11 | 13 | 15 | 22 | 24 => a < e.0,
             10 | 12 | 14 => (a < e.0) & (b < self.counts.names),
             17 => (a < e.0) & ((b < e.0) & ((1 <= c) & (c <= 15))),

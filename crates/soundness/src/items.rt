@@ -8,7 +8,6 @@ use layout::tables::{ITEM_ROW, ITEMS};
 use module::ExprId;
 use rows::ItemRow;
 use texts::text_fits;
-use words::get32;
 
 // Lambdas have pattern fields; a let and the two attribute sets have bindings, whose sources of
 // inherits are children; lists and attribute paths have children, and interpolations parts. Sorts and tags stay
@@ -53,12 +52,7 @@ impl CountedStore<'_> {
         requires { j < item_limit }
         ensures { result ≡ item_fits self.now.store.now e.0 sort j }
     {
-        let at = ITEMS + ITEM_ROW * (j as usize);
-        let item = ItemRow {
-            tag: get32(self.store, at),
-            a: get32(self.store, at + 4),
-            b: get32(self.store, at + 8),
-        };
+        let item = ItemRow::at(self.store, ITEMS + ITEM_ROW * (j as usize));
         tag_fits(sort, item.tag) && self.numbers_fit(e, item)
     }
 

@@ -11,6 +11,7 @@ mod exprs;
 mod fields;
 mod firsts;
 mod items;
+mod lists;
 mod names;
 mod scopes;
 mod uses;

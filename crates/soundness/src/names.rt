@@ -12,6 +12,8 @@ use texts::text_fits;
 use words::get32;
 
 impl CountedStore<'_> {
+    // The kinds are the numbers 0 to 4 (NameKind in module). A kind is compared as a number, since one that is none is
+    // what the check is for.
     #[tactic(auto, unfolding(crate::specs::Sound::name_row_fits))]
     fn name_row_fits(&self, x: NameId) -> bool
         requires { x.0 < self.now.counts.names }

@@ -7,6 +7,7 @@ ghost use Rattle.soundness.specs.Sound.{all_to, name_fits, scope_fits, scopes_fi
 
 use crate::counted::CountedStore;
 use crate::firsts::firsts_ascend;
+use crate::lists::all_below;
 use layout::tables::{ENTERED, NAME_LIMIT, SCOPE_ROW, SCOPES};
 use module::ScopeId;
 use words::get32;
@@ -29,18 +30,11 @@ impl CountedStore<'_> {
     }
 
     #[tactic(auto, unfolding(crate::specs::Sound::name_fits))]
-    fn entered_row_fits(&self, j: u32) -> bool
-        requires { j < name_limit }
-        ensures { result ≡ name_fits self.now.store.now (word self.now.store.now (entered_at + 4 * j)) }
-    {
-        get32(self.store, ENTERED + 4 * (j as usize)) < self.counts.names
-    }
-
     fn entered_fit(&self, n: u32) -> bool
         requires { n ≤ name_limit }
         ensures { result ≡ all_to (λ j. name_fits self.now.store.now (word self.now.store.now (entered_at + 4 * j))) n }
     {
-        (0..n).all(|j| self.entered_row_fits(j))
+        all_below(self.store, ENTERED, n, self.counts.names)
     }
 
     #[tactic(auto, unfolding(crate::specs::Sound::scopes_fit, layout::specs::Keeps::first_entered))]

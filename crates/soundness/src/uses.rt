@@ -6,12 +6,14 @@ ghost use Rattle.soundness.specs.Sound.{all_to, expr_fits, use_fits, kept_fits};
 
 use crate::counted::CountedStore;
 use crate::firsts::firsts_ascend;
+use crate::lists::all_below;
 use layout::tables::{FIRSTS, REFERENCE_LIMIT, REFERENCES, USE_ROW, USES};
 use module::ExprId;
 use words::get32;
 
 impl CountedStore<'_> {
-    // A scope stands one too high, with 0 for none; an answer is a name from 24 on.
+    // A scope stands one too high, with 0 for none. An answer is a name from 24 on; the numbers below are the other
+    // answers (docs/STORE.md), any of which may stand here.
     #[tactic(auto, unfolding(crate::specs::Sound::use_fits))]
     fn use_fits(&self, e: ExprId) -> bool
         requires { e.0 < self.now.counts.exprs }
@@ -28,19 +30,11 @@ impl CountedStore<'_> {
         (0..self.counts.exprs).all(|e| self.use_fits(ExprId(e)))
     }
 
-    #[tactic(auto, unfolding(crate::specs::Sound::expr_fits))]
-    fn reference_row_fits(&self, j: u32) -> bool
-        requires { j < reference_limit }
-        ensures { result ≡ expr_fits self.now.store.now (word self.now.store.now (references_at + 4 * j)) }
-    {
-        get32(self.store, REFERENCES + 4 * (j as usize)) < self.counts.exprs
-    }
-
     fn references_fit(&self, n: u32) -> bool
         requires { n ≤ reference_limit }
         ensures { result ≡ all_to (λ j. expr_fits self.now.store.now (word self.now.store.now (references_at + 4 * j))) n }
     {
-        (0..n).all(|j| self.reference_row_fits(j))
+        all_below(self.store, REFERENCES, n, self.counts.exprs)
     }
 
     #[tactic(auto, unfolding(crate::specs::Sound::kept_fits, layout::specs::Keeps::first_reference))]

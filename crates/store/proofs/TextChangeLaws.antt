@@ -27,7 +27,8 @@ use Rattle.layout.proofs.RowLaws.{length_rows, get_d_rows, rows_put, cap_lim}
 use Rattle.layout.proofs.Frames.{Same, clear_of, number_kept, wrote_none, text_still, pointer_same, made_same, own_items_same, exprs_kept, names_kept, diagnostics_kept, lost_kept}
 use Rattle.layout.proofs.WriteLaws.{still_set_word}
 use Rattle.store.specs.TextChanges.{Renamed, where_text, set_if_reference, Reworded}
-use Rattle.rows.proofs.ReferenceLaws.{made_at_lem, reference_made, text_past, text_other}
+use Rattle.rows.specs.Readers.{NoReference, ReferenceAt}
+use Rattle.rows.proofs.ReferenceLaws.{no_text, made_at_lem, reference_made}
 
 -- how many names there are
 pub names_cap : (s : List ℕ) (n : ℕ) → n ≡ length (names_of s) → n ≡ cap (word s name_count) name_limit
@@ -121,12 +122,8 @@ unworded s e k h unfit =
       other = λ q. refl;
     }
 
-pub no_expr : (s : List ℕ) (e k n : ℕ) → n ≡ cap (word s expr_count) expr_limit → n ≤ e → Reworded e k s s
-no_expr s e k n en h = unworded s e k (text_past s e n en h) (λ l q. omega (arith, en))
-
-pub no_reference : (s : List ℕ) (e k n sort : ℕ) → n ≡ cap (word s expr_count) expr_limit → e < n → sort ≡ word s (exprs_at + expr_row * e + 4) → (sort ≡ 21 → ⊥) → Reworded e k s s
-unfolding sort_of
-no_reference s e k n sort en h es ne = unworded s e k (text_other s e n sort en h es ne) (λ l q. ne (es ∙ q))
+pub no_reference : (s : List ℕ) (e k : ℕ) → NoReference s e → Reworded e k s s
+no_reference s e k h = unworded s e k (sym (no_text s e h)) h.other
 
 module _ (s t : List ℕ) (e k n sort : ℕ) (l : Long s) (en : n ≡ cap (word s expr_count) expr_limit) (h : e < n) (es : sort ≡ word s (exprs_at + expr_row * e + 4)) (eq : sort ≡ 21) (hk : k < 2 ^ 32) (et : t ≡ set_word s (exprs_at + expr_row * e + 8) k) where
   low_expr : e < expr_limit
@@ -214,3 +211,7 @@ module _ (s t : List ℕ) (e k n sort : ℕ) (l : Long s) (en : n ≡ cap (word 
         other = λ q. absurd (q is_reference);
         does = reference_module ∙ sym sets_it;
       }
+
+pub reworded_at : (s t : List ℕ) (e k at : ℕ) → Long s → ReferenceAt s e at → k < 2 ^ 32 → t ≡ set_word s at k → Reworded e k s t
+unfolding sort_of
+reworded_at s t e k at l h hk et = reworded s t e k _ _ l refl h.used refl h.sort hk (rw h.place at et)

@@ -1,5 +1,6 @@
-// How an expression lies in its row: docs/STORE.md's sorts. A sort is written here alone and read back in decode.rt of
-// rows; in between it is a number, since rows are bytes that anybody may write.
+// How an expression with a pointer lies in its row: docs/STORE.md's sorts. Each sort is written here, but for 0, Missing
+// without a pointer, which alloc_missing in exprs.rt writes. Sorts are read back in decode.rt of rows; in between a sort
+// is a number, since rows are bytes that anybody may write.
 #![tactic(auto, unfolding(layout::specs::Exprs::expr_of, rows::specs::Decoded::expr_with, rows::specs::Decoded::pattern_with, rows::specs::Decoded::ValidExpr, crate::specs::Codes::sort_for, crate::specs::Codes::literal_sort, crate::specs::Codes::lambda_sort, crate::specs::Codes::select_sort, crate::specs::Codes::ranged, module::specs::Literals::literal_of, module::specs::Ids::expr_of, module::specs::Ids::name_of))]
 
 ghost use Rattle.std.specs.Prelude.{◌≡◌, ◌≤◌, ◌*◌, ◌+◌};
@@ -10,12 +11,12 @@ ghost use Rattle.module.specs.Literals.{Valid};
 use module::{Expr, ExprId, Literal, NameId, Pattern, bits_of, value_of};
 use rows::Row;
 
-// A number in two words, the higher first.
+// A number in two words, the higher first: joined of rows the other way round.
 fn halves(sort: u32, n: u64) -> Row
     ensures { (result.sort ≡ sort) × (result.a * 4294967296 + result.b ≡ n) }
 {
-    let high = (n / 4294967296) as u32;
-    let low = (n % 4294967296) as u32;
+    let high = (n >> 32) as u32;
+    let low = (n % (1 << 32)) as u32;
     Row {
         sort,
         a: high,

@@ -1,4 +1,6 @@
 // Expressions are appended: a row, its pointer, and the items that waited for it; and a Reference gets another text.
+// With no room alloc_expr and alloc_missing give the limit, a number that no expression has, as alloc_name in names.rt
+// does: a tree that was accepted has room for all, so an Option would ask every caller to look for what doesn't happen.
 ghost use Rattle.std.specs.Prelude.{◌≡◌, true, ◌+◌, ◌*◌, ◌≤◌, ◌<◌, length, drop};
 ghost use Rattle.std.proofs.Math.Option.{none, some};
 ghost use Rattle.words.specs.Words.{word};
@@ -18,9 +20,9 @@ use layout::tables::{
     EXPR_COUNT, EXPR_LIMIT, EXPR_POINTERS, EXPR_ROW, EXPRS, ITEM_LIMIT, ITEM_ROW, ITEMS,
     POINTER_ROW, WAITING, WAITING_COUNT, WAITING_LIMIT,
 };
-use layout::{at_most, counter, put_pointer, put_words};
+use layout::{counter, in_use, put_pointer, put_words};
 use module::{Counter, Expr, ExprId, Item, Pointer, TextId};
-use rows::{ItemRow, REFERENCE, Row, expr_count};
+use rows::{ItemRow, Row, reference_place};
 use words::{get32, move_run, put32};
 
 // How many items wait for their expression.
@@ -29,7 +31,7 @@ pub fn waiting_count(store: &[u8]) -> u32
     requires { Long store.now }
     ensures { result ≡ length (waiting_of store.now) }
 {
-    at_most(get32(store, WAITING_COUNT), WAITING_LIMIT)
+    in_use(store, WAITING_COUNT, WAITING_LIMIT)
 }
 
 // One more item waits.
@@ -144,17 +146,12 @@ pub fn alloc_missing(store: &mut [u8]) -> ExprId
 }
 
 // The expression e, if it is a Reference, has another text.
-#[tactic(auto, using(rows::proofs::ReferenceLaws::exprs_cap, crate::proofs::TextChangeLaws::no_expr))]
+#[tactic(auto, using(rows::proofs::ReferenceLaws::place_within, crate::proofs::TextChangeLaws::no_reference))]
 pub fn set_reference_text(store: &mut [u8], e: ExprId, t: TextId)
     requires { Long store.old }
     ensures { Reworded e.0 t.0 store.old store.new }
 {
-    let n = e.0;
-    if expr_count(store) <= n {
-        return;
+    if let Some(at) = reference_place(store, e) {
+        put32(store, at, t.0);
     }
-    if get32(store, EXPRS + EXPR_ROW * n as usize + 4) != REFERENCE {
-        return;
-    }
-    put32(store, EXPRS + EXPR_ROW * n as usize + 8, t.0);
 }

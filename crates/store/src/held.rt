@@ -1,5 +1,7 @@
 // Rows are written with texts that lie within the bytes in use. Another number reads as the empty text, and the mark
-// for the empty text is written in its place, so that what lowering leaves is sound whatever it was given.
+// for the empty text is written in its place, so that what lowering leaves is sound whatever it was given. The tests are
+// on the numbers of a row, since the contracts are about its words: a match on the Expr would look for texts at two
+// levels, its own and the Literal's, and be no plainer.
 ghost use Rattle.std.specs.Prelude.{◌≡◌};
 ghost use Rattle.layout.specs.Layout.{Long};
 ghost use Rattle.store.specs.Codes.{has_text, HeldRow, HeldItem};

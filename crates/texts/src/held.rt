@@ -9,7 +9,7 @@ ghost use Rattle.layout.specs.Layout.{texts_at, texts_place, text_limit, Long};
 ghost use Rattle.layout.specs.Texts.{text_held};
 ghost use Rattle.texts.specs.Fits.{text_fits, Held};
 
-use layout::at_most;
+use layout::in_use;
 use layout::tables::{ABSENT, TEXT_LIMIT, TEXTS, TEXTS_PLACE};
 use words::get32;
 
@@ -31,7 +31,7 @@ pub fn text_held(store: &[u8], t: u32) -> bool
     requires { Long store.now }
     ensures { result ≡ text_held store.now t }
 {
-    let used = at_most(get32(store, TEXTS_PLACE), TEXT_LIMIT);
+    let used = in_use(store, TEXTS_PLACE, TEXT_LIMIT);
     lies_within(store, used, t)
 }
 

@@ -4,4 +4,4 @@ use Rattle.texts.proofs.held.text_held.Goals as goal
 
 pub returns : goal.returns
 unfolding texts_used text_held
-returns c = rw (← c.get32.ensures, ← c.at_most-used.ensures.0) c.lies_within.ensures
+returns c = rw (← c.in_use-used.ensures.0) c.lies_within.ensures

@@ -1,12 +1,7 @@
 -- `soundness::counted::CountedStore::references_fit` meets its contract.
-use Rattle.std.proofs.Common.{rules}
-use Rattle.soundness.proofs.RangeLaws.{all_of_rows}
-use Prim.Native.Nat.{◌+◌, ◌*◌}
-use Rattle.layout.specs.Layout.{references_at}
-use Rattle.words.specs.Words.{word}
 use Rattle.soundness.specs.Sound.{expr_fits}
-use mathlib.Core.Path.{refl}
 use Rattle.soundness.proofs.counted.CountedStore.references_fit.Goals as goal
 
 pub returns : goal.returns
-returns c = all_of_rows (λ j. expr_fits c.args.self.now.store.now (word c.args.self.now.store.now (references_at + 4 * j))) _ _ c.all.ensures.ran (λ x b q k. search rules) _ refl
+unfolding expr_fits
+returns c = rw (← c.args.self.now.counted.taken.exprs) c.all_below.ensures
