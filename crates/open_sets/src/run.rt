@@ -2,11 +2,12 @@
 // earlier first. It is searched by halving.
 ghost use Rattle.std.specs.Prelude.{◌≡◌, ◌≤◌, get_or};
 ghost use Rattle.words.specs.Order.{order};
+ghost use Rattle.spec.specs.State.{source};
 ghost use Rattle.spec.specs.Merge as merge;
 ghost use Rattle.layout.specs.Layout.{entry_limit, Long};
 ghost use Rattle.layout.specs.Texts.{text_in};
 ghost use Rattle.layout.specs.States.{entries_of, state_of, order_of};
-ghost use Rattle.open_sets.specs.Ranks.{standing, InOrder, placed, segment};
+ghost use Rattle.open_sets.specs.Ranks.{standing, InOrder, segment};
 ghost use Rattle.open_sets.specs.Run.{standing_with, stops, Place, maybe_entry_of, found_at, run_from, NextInRun};
 
 use crate::entries::{entry_at, entry_count};
@@ -29,18 +30,16 @@ fn in_run(store: &[u8], j: u32) -> u32
     0
 }
 
-// How the entry at the place j stands to p.
+// How the entry i stands to p.
 #[tactic(auto, using(crate::proofs::RunReads::compared))]
-fn compare_at(store: &[u8], j: u32, p: Standing) -> Ordering
+fn compare_entry(store: &[u8], i: u32, p: Standing) -> Ordering
     requires { Long store.now }
-    ensures { result ≡ order (standing (placed (entries_of store.now) (order_of store.now) j)) (standing_with store.now p) }
+    ensures { result ≡ order (standing (get_or (entries_of store.now) i (source 0 0))) (standing_with store.now p) }
 {
-    let e = entry_at(store, in_run(store, j));
-    compare_standings(store, standing_of(e), p)
+    compare_standings(store, standing_of(entry_at(store, i)), p)
 }
 
-// Whether the search below stops at an entry that compares so. The bool turns one comparison: a closure in its place
-// would say the same in more words.
+// Whether the search below stops at an entry that compares so.
 #[tactic(auto, unfolding(crate::specs::Run::stops))]
 fn stops(o: Ordering, past: bool) -> bool
     ensures { result ≡ stops past o }
@@ -53,18 +52,13 @@ pub fn place(store: &[u8], p: Standing, past: bool) -> u32
     requires { Long store.now }
     ensures { Place past p store.now result }
 {
-    let mut low: u32 = 0;
-    let mut high = entry_count(store);
-    // No `partition_point`: the run lies as words in the bytes of the store, which the hosts own, and is no slice.
-    while low < high {
-        let middle = low + (high - low) / 2;
-        if stops(compare_at(store, middle, p), past) {
-            high = middle;
-        } else {
-            low = middle + 1;
-        }
-    }
-    low
+    let end = RUN + 4 * entry_count(store) as usize;
+    let (numbers, _) = store[RUN..end].as_chunks::<4>();
+    let q = numbers.partition_point(|number| {
+        let o = compare_entry(store, u32::from_le_bytes(*number), p);
+        !stops(o, past)
+    });
+    q as u32
 }
 
 // The entry at the place j, if it stands where p does.
@@ -73,7 +67,7 @@ fn found_at(store: &[u8], j: u32, p: Standing) -> Option<u32>
     requires { Long store.now }
     ensures { maybe_entry_of result ≡ found_at store.now j p }
 {
-    if j < entry_count(store) && compare_at(store, j, p).is_eq() {
+    if j < entry_count(store) && compare_entry(store, in_run(store, j), p).is_eq() {
         return Some(in_run(store, j));
     }
     None
