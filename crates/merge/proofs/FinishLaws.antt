@@ -188,7 +188,7 @@ pub going_past : {bound : ℕ} {set : SetId} {s t : List ℕ} {i j : ℕ} (n : �
     → (InOrder (entries_of s) (order_of s) → run_from set (entries_of s) (order_of s) i ≡ segment set (entries_of s))
     → Listing (loads (entries_of s) bound set) binding_items (finish_with (finish_to bound) set) s t
 unfolding NextInRun
-going_past {bound} {set} {s} {t} {i} {j} n g e h begin = going_end g (λ same. next_past t j n set (e ∙ ap length (sym same)) h) begin
+going_past {bound} {set} {s} {t} {i} {j} n g e h begin = going_end g (λ same. next_past t j set (omega (arith, e, ap length same, h))) begin
 
 -- ---- finish_expr
 pub no_bound : (bound : ℕ) (es : List MergingEntry) (set : SetId) {s t : List ℕ} {r : ExprId} → bound ≡ 0 → Did (take_lone hole_made) s r t → Finishing (load es bound set) (finish_to bound set) s r t

@@ -25,7 +25,7 @@ use Rattle.layout.specs.Layout.{entry_limit, entry_count, run_at, Long}
 use Rattle.layout.specs.Rows.{cap}
 use Rattle.layout.specs.Texts.{text_in}
 use Rattle.layout.specs.States.{entries_of, state_of, order_of}
-use Rattle.layout.proofs.RowLaws.{length_rows, get_d_rows, get_d_past}
+use Rattle.layout.proofs.RowLaws.{length_rows, get_d_rows}
 use Rattle.open_sets.specs.declared.entry.Entry.{Entry}
 use Rattle.open_sets.specs.declared.standing.Standing.{Standing}
 use Rattle.open_sets.specs.declared.standing.Class.{Class}
@@ -47,10 +47,6 @@ length_order s = length_rows (λ i. word s (run_at + 4 * i)) (cap (word s entry_
 pub number_here : (s : List ℕ) (j n v : ℕ) → n ≡ length (entries_of s) → j < n → v ≡ word s (run_at + 4 * j) → v ≡ get_or (order_of s) j 0
 unfolding order_of
 number_here s j n v e h q = q ∙ sym (get_d_rows (λ i. word s (run_at + 4 * i)) (cap (word s entry_count) entry_limit) j 0 (omega (arith, length_entries s)))
-
-pub number_past : (s : List ℕ) (j n : ℕ) → n ≡ length (entries_of s) → n ≤ j → 0 ≡ get_or (order_of s) j 0
-unfolding order_of
-number_past s j n e h = sym (get_d_past (λ i. word s (run_at + 4 * i)) (cap (word s entry_count) entry_limit) j 0 (omega (arith, length_entries s)))
 
 -- the entry with the number that stands there
 pub placed_is : (s : List ℕ) (j i : ℕ) (e : Entry) → i ≡ get_or (order_of s) j 0 → entry_with s e ≡ entry_at i (state_of s) → placed (entries_of s) (order_of s) j ≡ entry_with s e
