@@ -25,7 +25,8 @@ use Rattle.store.specs.Codes.{expr_made, hole_made, sort_for}
 use Rattle.soundness.specs.Sound.{tag_fits}
 use Rattle.store.specs.Work.{lowering, Did, Takes, take_lone, push_item}
 use Rattle.open_sets.specs.Ranks.{InOrder, segment}
-use Rattle.open_sets.specs.Run.{run_from}
+use Rattle.open_sets.specs.Run.{run_from, NextInRun}
+use Rattle.open_sets.proofs.RunSets.{next_past}
 use Rattle.merge.specs.Lowers.{Lowerable}
 use Rattle.merge.specs.Finishes.{binding_items, finish_entry, only, value_load, entry_load, Begins, ExprsOnly, Finished, Finishing, Listing}
 use Rattle.merge.proofs.Items.{bindings_items, segment_becomes, segment_takes, bindings_suit}
@@ -145,12 +146,12 @@ going_more {bound} {set} {s} {u} {t} {i} {j} {e} g next x = record {
           items_few = omega (arith, takes, before, ap (sum_by k) after, h.items_few, l.items_few);
         }
 
--- the loop has come to the end of the set
-pub going_done : {bound : ℕ} {set : SetId} {s t : List ℕ} {i j : ℕ} → Going bound set s i t j → run_from set (entries_of t) (order_of t) j ≡ []
+-- what is left is none of the set, as long as the entries are the same
+going_end : {bound : ℕ} {set : SetId} {s t : List ℕ} {i j : ℕ} → Going bound set s i t j → (entries_of t ≡ entries_of s → run_from set (entries_of t) (order_of t) j ≡ [])
     → (InOrder (entries_of s) (order_of s) → run_from set (entries_of s) (order_of s) i ≡ segment set (entries_of s))
     → Listing (loads (entries_of s) bound set) binding_items (finish_with (finish_to bound) set) s t
 unfolding state_of each give
-going_done {bound} {set} {s} {t} {i} {j} g end begin = listing_of binding_items g.wrote g.still go
+going_end {bound} {set} {s} {t} {i} {j} g end begin = listing_of binding_items g.wrote g.still go
   where
     p : Low Bindings
     p = finish_with (finish_to bound) set
@@ -163,7 +164,7 @@ going_done {bound} {set} {s} {t} {i} {j} g end begin = listing_of binding_items 
         let h = g.does w (begins_less (omega (arith, takes)) b) in
         let f = finish_entry (finish_to bound) in
         let whole : onto h.made ([], state_of t) ≡ (binding_items (p (state_of s)).0, (p (state_of s)).1) =
-        sym (h.same ∙ ap (λ as'. onto h.made (each f as' (state_of t))) end) ∙ (ap (λ as'. each f as' (state_of s)) all ∙ segment_becomes (finish_to bound) set (state_of s)) in
+        sym (h.same ∙ ap (λ as'. onto h.made (each f as' (state_of t))) (end h.kept.entries_same)) ∙ (ap (λ as'. each f as' (state_of s)) all ∙ segment_becomes (finish_to bound) set (state_of s)) in
         let items : h.made ≡ binding_items (p (state_of s)).0 = sym (append-nil h.made) ∙ ap (λ z. z.0) whole in (
           (p (state_of s)).0,
           record {
@@ -175,6 +176,19 @@ going_done {bound} {set} {s} {t} {i} {j} g end begin = listing_of binding_items 
             items_few = omega (arith, takes, h.items_few);
           },
         )
+
+-- the loop has come to the end of the set
+pub going_done : {bound : ℕ} {set : SetId} {s t : List ℕ} {i j : ℕ} → Going bound set s i t j → run_from set (entries_of t) (order_of t) j ≡ []
+    → (InOrder (entries_of s) (order_of s) → run_from set (entries_of s) (order_of s) i ≡ segment set (entries_of s))
+    → Listing (loads (entries_of s) bound set) binding_items (finish_with (finish_to bound) set) s t
+going_done g end begin = going_end g (λ same. end) begin
+
+-- or to the end of the run
+pub going_past : {bound : ℕ} {set : SetId} {s t : List ℕ} {i j : ℕ} (n : ℕ) → Going bound set s i t j → n ≡ length (entries_of s) → n ≤ j
+    → (InOrder (entries_of s) (order_of s) → run_from set (entries_of s) (order_of s) i ≡ segment set (entries_of s))
+    → Listing (loads (entries_of s) bound set) binding_items (finish_with (finish_to bound) set) s t
+unfolding NextInRun
+going_past {bound} {set} {s} {t} {i} {j} n g e h begin = going_end g (λ same. next_past t j set (omega (arith, e, ap length same, h))) begin
 
 -- ---- finish_expr
 pub no_bound : (bound : ℕ) (es : List MergingEntry) (set : SetId) {s t : List ℕ} {r : ExprId} → bound ≡ 0 → Did (take_lone hole_made) s r t → Finishing (load es bound set) (finish_to bound set) s r t

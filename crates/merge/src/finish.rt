@@ -14,7 +14,7 @@ ghost use Rattle.open_sets.specs.Entries.{maybe_set_of, maybe_value_of, entry_wi
 ghost use Rattle.merge.specs.Finishes.{binding_items, finish_entry, only, value_load, entry_load, Finishing, Listing};
 
 use module::{BindingValue, Expr, ExprId, Item};
-use open_sets::{Entry, SetId, entry_of, first_of, set_count, set_pointer};
+use open_sets::{Entry, SetId, entry_count, entry_of, first_of, set_count, set_pointer};
 use store::{alloc_expr, alloc_missing, push_item, waiting_count};
 
 // docs/RULES.md, "Finishing": "a nested set still wins"
@@ -57,18 +57,19 @@ fn finish_entry(store: &mut [u8], bound: u32, e: Entry)
     }
 }
 
-// Pushes the bindings of a set, in the order of the run. The place is counted by hand: what an entry pushes goes into
-// the store that the next one is read from, which no iterator could have borrowed.
-#[tactic(auto, using(crate::proofs::FinishLaws::going_none, crate::proofs::FinishLaws::going_more, crate::proofs::FinishLaws::going_done), unfolding(open_sets::specs::Run::NextInRun))]
+// Pushes the bindings of a set, in the order of the run. Each entry is read from the store that the ones before it
+// have been pushed into.
+#[tactic(auto, using(crate::proofs::FinishLaws::going_none, crate::proofs::FinishLaws::going_more, crate::proofs::FinishLaws::going_done, crate::proofs::FinishLaws::going_past), unfolding(open_sets::specs::Run::NextInRun))]
 #[cycle(finishing)]
 pub fn finish(store: &mut [u8], bound: u32, s: SetId)
     requires { Long store.old }
     ensures { Listing (loads (entries_of store.old) bound s.0) binding_items (finish_with (finish_to bound) s.0) store.old store.new }
 {
-    let mut j = first_of(store, s);
-    while let Some(e) = entry_of(store, s, j) {
+    for j in first_of(store, s)..entry_count(store) {
+        let Some(e) = entry_of(store, s, j) else {
+            return;
+        };
         finish_entry(store, bound, e);
-        j += 1;
     }
 }
 

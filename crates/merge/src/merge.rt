@@ -68,7 +68,8 @@ pub fn nested_at(store: &[u8], s: SetId, key: TextId) -> Option<SetId>
     nested_in(entry_at(store, i))
 }
 
-// A name for a key of the set.
+// A name for a key of the set. Set, key and pointer are three parameters here and below, as in the definitions: the
+// callers in `lower` hold them apart, and the bodies would take a struct of them apart again.
 fn name_key(store: &mut [u8], s: SetId, key: TextId, p: Pointer) -> NameId
     requires { Long store.old }
     ensures { Merges one_name (definition.name_key s.0 (text_in store.old key.0) (pointer_of p)) store.old result.0 store.new }

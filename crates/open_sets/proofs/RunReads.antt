@@ -1,22 +1,31 @@
 -- The run as it is read from a store, and the search for a place in it. Assumes nothing.
 use mathlib.Core.Path.{◌≡◌, refl, sym, ap, ◌∙◌}
 use mathlib.Core.Bool.{Bool, true, false, not}
-use mathlib.Core.List.{List}
-use Prim.Native.Nat.{ℕ, ◌+◌, ◌*◌, ◌≤◌, ◌<◌}
+use mathlib.Core.List.{List, [], ◌∷◌}
+use Prim.Native.Nat.{ℕ, zero, suc, ◌+◌, ◌-◌, ◌*◌, ◌/◌, ◌≤◌, ◌<◌}
 use native.Mathlib.Omega.{arith}
-use lib.ListN.{length, get_or}
-use borrow.Author.Tests.{not-true}
+use lib.ListN.{length, get_or, take, drop}
+use borrow.Author.Tests.{not-true, not-false}
+use Rattle.std.proofs.Common.{Fits, w8, w32}
+use Rattle.std.specs.Int.{from_le_bytes}
+use Rattle.std.specs.List.{slice_range}
+use Rattle.std.specs.List.Sorted.{IsPartitionPoint, IsPartitionedBy}
+use Rattle.std.specs.Simd.{first_chunks}
+use Rattle.words.specs.Runs.{run}
 use Rattle.words.specs.Words.{word}
+use Rattle.words.proofs.RunLaws.{length_run, run_cons, run_run}
+use Rattle.words.proofs.WordLaws.{word_bytes}
 use Rattle.words.specs.Order.{order}
 use Rattle.std.specs.declared.cmp.Ordering.{Ordering}
 use Rattle.std.specs.declared.cmp.Ordering.TheVariants.{Less, Equal, Greater}
 use Rattle.std.specs.Ordering.{is_lt, is_gt, nat_cmp, ordering_then, MatchOrdering}
+use Rattle.spec.specs.State.{source}
 use Rattle.spec.specs.Merge.{entry_at}
-use Rattle.layout.specs.Layout.{entry_limit, entry_count, run_at}
+use Rattle.layout.specs.Layout.{entry_limit, entry_count, run_at, Long}
 use Rattle.layout.specs.Rows.{cap}
 use Rattle.layout.specs.Texts.{text_in}
 use Rattle.layout.specs.States.{entries_of, state_of, order_of}
-use Rattle.layout.proofs.RowLaws.{length_rows, get_d_rows, get_d_past}
+use Rattle.layout.proofs.RowLaws.{length_rows, get_d_rows}
 use Rattle.open_sets.specs.declared.entry.Entry.{Entry}
 use Rattle.open_sets.specs.declared.standing.Standing.{Standing}
 use Rattle.open_sets.specs.declared.standing.Class.{Class}
@@ -24,11 +33,11 @@ use Rattle.open_sets.specs.declared.standing.Class.TheVariants.{Static, Source, 
 use Rattle.open_sets.specs.contracts.standing.ClassOrd.TheImpl as class_ord
 use Rattle.open_sets.specs.Ranks.{standing, InOrder, placed}
 use Rattle.open_sets.specs.Entries.{entry_with}
-use Rattle.open_sets.specs.Run.{class_number, standing_with, Stands, stops, stops_at}
+use Rattle.open_sets.specs.Run.{class_number, standing_with, Stands, stops, stops_at, Place}
 use Rattle.open_sets.proofs.RankOrder.{Le, less_is_greater, le_trans, le_gt}
 use Rattle.open_sets.proofs.RankLaws.{run_le}
 use Rattle.open_sets.proofs.EntryLaws.{length_entries}
-use Rattle.open_sets.proofs.Halving.{Rising, Halved, halved_left, halved_right}
+use Rattle.open_sets.proofs.Halving.{Rising, falls}
 
 -- ---- the numbers
 pub length_order : (s : List ℕ) → length (order_of s) ≡ length (entries_of s)
@@ -38,10 +47,6 @@ length_order s = length_rows (λ i. word s (run_at + 4 * i)) (cap (word s entry_
 pub number_here : (s : List ℕ) (j n v : ℕ) → n ≡ length (entries_of s) → j < n → v ≡ word s (run_at + 4 * j) → v ≡ get_or (order_of s) j 0
 unfolding order_of
 number_here s j n v e h q = q ∙ sym (get_d_rows (λ i. word s (run_at + 4 * i)) (cap (word s entry_count) entry_limit) j 0 (omega (arith, length_entries s)))
-
-pub number_past : (s : List ℕ) (j n : ℕ) → n ≡ length (entries_of s) → n ≤ j → 0 ≡ get_or (order_of s) j 0
-unfolding order_of
-number_past s j n e h = sym (get_d_past (λ i. word s (run_at + 4 * i)) (cap (word s entry_count) entry_limit) j 0 (omega (arith, length_entries s)))
 
 -- the entry with the number that stands there
 pub placed_is : (s : List ℕ) (j i : ℕ) (e : Entry) → i ≡ get_or (order_of s) j 0 → entry_with s e ≡ entry_at i (state_of s) → placed (entries_of s) (order_of s) j ≡ entry_with s e
@@ -73,9 +78,10 @@ pub standings_compared : {P : Type 0} (s : List ℕ) (x y : Standing) (a b c r :
 unfolding standing_with order
 standings_compared s x y a b c r ea eb ec h f = decided (nat_cmp x.set y.set) (nat_cmp (class_number x.class) (class_number y.class)) (order (text_in s x.key.0) (text_in s y.key.0)) r (rw (ec, ea, eb, class_compared x.class y.class) at h) f
 
--- what the comparison at a place said
-pub compared : (s : List ℕ) (j i : ℕ) (e : Entry) (q p : Standing) (r : Ordering) → i ≡ get_or (order_of s) j 0 → entry_with s e ≡ entry_at i (state_of s) → Stands q e → r ≡ order (standing_with s q) (standing_with s p) → r ≡ order (standing (placed (entries_of s) (order_of s) j)) (standing_with s p)
-compared s j i e q p r a b c d = rw (placed_is s j i e a b, ← c.same s) d
+-- what the comparison with an entry said
+pub compared : (s : List ℕ) (i : ℕ) (e : Entry) (q p : Standing) (r : Ordering) → entry_with s e ≡ entry_at i (state_of s) → Stands q e → r ≡ order (standing_with s q) (standing_with s p) → r ≡ order (standing (get_or (entries_of s) i (source 0 0))) (standing_with s p)
+unfolding entry_at state_of
+compared s i e q p r b c d = rw (← b, ← c.same s) d
 
 -- ---- the search
 -- the test by the order's own
@@ -103,31 +109,67 @@ unfolding stops_at
 search_rises past p s o =
     record { rises = λ i j h l q. stops_rises past (standing (placed (entries_of s) (order_of s) i)) (standing (placed (entries_of s) (order_of s) j)) (standing_with s p) (run_le o i j h l) q }
 
--- it stops first somewhere from `low` to `high`
-pub record Search (past : Bool) (p : Standing) (s : List ℕ) (low high : ℕ) : Type 0 where
-  pub apart : low ≤ high
-  pub within : high ≤ length (entries_of s)
-  pub few : high ≤ entry_limit
-  pub halved : InOrder (entries_of s) (order_of s) → Halved (stops_at past p s) (length (entries_of s)) low high
+-- whether it goes on past the entry whose number is written so
+abbrev pub goes_on : Bool → Standing → List ℕ → List ℕ → Bool
+goes_on past p s w = not (stops past (order (standing (get_or (entries_of s) (from_le_bytes w32 w) (source 0 0))) (standing_with s p)))
 
--- what the comparison in the middle said
-said : (past : Bool) (p : Standing) (s : List ℕ) (middle : ℕ) (r : Bool) (x : Ordering) → x ≡ order (standing (placed (entries_of s) (order_of s) middle)) (standing_with s p) → r ≡ stops past x → stops_at past p s middle ≡ r
-unfolding stops_at
-said past p s middle r x a b = rw (← a, ← b)
+-- ---- the numbers as they lie in the bytes
+drop_none : (m : ℕ) → drop {A = ℕ} m [] ≡ []
+drop_none zero = refl
+drop_none (suc m) = refl
 
-module _ {past : Bool} {p : Standing} {s : List ℕ} where
-  pub search_left : {low high : ℕ} (middle : ℕ) (r : Bool) (x : Ordering) → Search past p s low high → low ≤ middle → middle < high → x ≡ order (standing (placed (entries_of s) (order_of s) middle)) (standing_with s p) → r ≡ stops past x → r ≡ true → Search past p s low middle
-  search_left middle r x g h l a b e = record {
-    apart = h;
-    within = omega (arith, g.within);
-    few = omega (arith, g.few);
-    halved = λ o. halved_left middle (search_rises past p s o) (g.halved o) h l (said past p s middle r x a b ∙ e);
-  }
+drop_four : (m : ℕ) (xs : List ℕ) → drop m (drop 4 xs) ≡ drop (suc (suc (suc (suc m)))) xs
+drop_four m [] = drop_none m
+drop_four m (a ∷ []) = drop_none m
+drop_four m (a ∷ b ∷ []) = drop_none m
+drop_four m (a ∷ b ∷ c ∷ []) = drop_none m
+drop_four m (a ∷ b ∷ c ∷ d ∷ xs) = refl
 
-  pub search_right : {low high : ℕ} (middle : ℕ) (r : Bool) (x : Ordering) → Search past p s low high → low ≤ middle → middle < high → x ≡ order (standing (placed (entries_of s) (order_of s) middle)) (standing_with s p) → r ≡ stops past x → r ≡ false → Search past p s (middle + 1) high
-  search_right middle r x g h l a b e = record {
-    apart = omega arith;
-    within = g.within;
-    few = g.few;
-    halved = λ o. halved_right middle (search_rises past p s o) (g.halved o) h l (said past p s middle r x a b ∙ e);
-  }
+chunk_is : (k j : ℕ) (xs d : List ℕ) → j < k → get_or (first_chunks 4 k xs) j d ≡ run xs (4 * j) 4
+unfolding run
+chunk_is zero j xs d h = absurd (omega arith)
+chunk_is (suc k) zero xs d h = refl
+chunk_is (suc k) (suc j) xs d h =
+    let e : 4 * suc j ≡ suc (suc (suc (suc (4 * j)))) = omega arith in
+    chunk_is k j (drop 4 xs) d (omega arith) ∙ rw e (ap (take 4) (drop_four (4 * j) xs))
+
+four_bytes : (s : List ℕ) (at : ℕ) → at + 4 ≤ length s → run s at 4 ≡ get_or s at 0 ∷ get_or s (at + 1) 0 ∷ get_or s (at + 2) 0 ∷ get_or s (at + 3) 0 ∷ []
+unfolding run
+four_bytes s at h =
+    let two : at + 1 + 1 ≡ at + 2 = omega arith in
+    let three : at + 2 + 1 ≡ at + 3 = omega arith in
+    run_cons s at 3 (omega arith)
+    ∙ rw (run_cons s (at + 1) 2 (omega arith), two, run_cons s (at + 2) 1 (omega arith), three, run_cons s (at + 3) 0 (omega arith))
+
+module _ (s : List ℕ) (byte : (i : ℕ) → Fits w8 (get_or s i 0)) where
+  word_read : (at : ℕ) → at + 4 ≤ length s → from_le_bytes w32 (run s at 4) ≡ word s at
+  word_read at h = rw (four_bytes s at h) (omega (arith, word_bytes s at h, byte at, byte (at + 1), byte (at + 2), byte (at + 3)))
+
+  module _ (past : Bool) (p : Standing) (long : Long s) (n : ℕ) (e : n ≡ length (entries_of s)) (few : n ≤ entry_limit) (numbers : List (List ℕ)) (all : numbers ≡ first_chunks 4 (length (slice_range s run_at (run_at + 4 * n)) / 4) (slice_range s run_at (run_at + 4 * n))) (many : length numbers ≡ n) where
+    number_at : (j : ℕ) (d : List ℕ) → j < n → from_le_bytes w32 (get_or numbers j d) ≡ get_or (order_of s) j 0
+    unfolding run
+    number_at j d h =
+        let span : run_at + 4 * n - run_at ≡ 4 * n = omega arith in
+        let whole = length_run s run_at (4 * n) (omega (arith, long, few)) in
+        let count : 4 * n / 4 ≡ n = omega arith in
+        let inside = run_run s run_at (4 * n) (4 * j) 4 (omega (arith, long, few)) (omega arith) in
+        let as_run : numbers ≡ first_chunks 4 n (run s run_at (4 * n)) = all ∙ rw (span, whole, count) refl in
+        number_here s j n _ e h (rw (as_run, chunk_is n j (run s run_at (4 * n)) d h, inside) (word_read (run_at + 4 * j) (omega (arith, long, few))))
+
+    goes_on_at : (j : ℕ) (d : List ℕ) → j < n → goes_on past p s (get_or numbers j d) ≡ not (stops_at past p s j)
+    unfolding stops_at
+    goes_on_at j d h = rw (number_at j d h) refl
+
+    pub parted : InOrder (entries_of s) (order_of s) → IsPartitionedBy (goes_on past p s) numbers
+    parted o i j d h l q =
+        let inside : j < n = omega (arith, many) in
+        let stops_not = not-true (stops_at past p s j) (sym (goes_on_at j d inside) ∙ q) in
+        goes_on_at i d (omega arith) ∙ ap not (falls (search_rises past p s o) i j h (omega (arith, e)) stops_not)
+
+    pub first_place : (q : ℕ) → q ≤ length numbers → (InOrder (entries_of s) (order_of s) → IsPartitionPoint (λ w. goes_on past p s w ≡ true) (λ w. goes_on past p s w ≡ false) numbers q) → Place past p s q
+    first_place q bound point = record {
+      within = omega (arith, many, e);
+      few = omega (arith, many);
+      fails = λ o j h. not-true (stops_at past p s j) (sym (goes_on_at j [] (omega (arith, many))) ∙ (point o).0 j [] (omega arith) h);
+      passes = λ o j h l. not-false (stops_at past p s j) (sym (goes_on_at j [] (omega (arith, e))) ∙ (point o).1 j [] h (omega (arith, many, e)));
+    }

@@ -36,12 +36,12 @@ set_is : (s : List ℕ) (p : Standing) (e : Entry) → Stands p e → set_of (en
 unfolding standing_with standing
 set_is s p e stands = let z = stands.same s in cc
 
-module _ (s : List ℕ) (j n set : ℕ) (en : n ≡ length (entries_of s)) where
-  pub next_past : n ≤ j → NextInRun s set j rust.None
+module _ (s : List ℕ) (j set : ℕ) where
+  pub next_past : length (entries_of s) ≤ j → NextInRun s set j rust.None
   unfolding NextInRun
   next_past h = run_end set (entries_of s) (order_of s) j (omega (arith, length_order s))
 
-  module _ (i : ℕ) (e : Entry) (p : Standing) (h : j < n) (at : i ≡ get_or (order_of s) j 0) (there : entry_with s e ≡ entry_at i (state_of s)) (stands : Stands p e) where
+  module _ (i : ℕ) (e : Entry) (p : Standing) (h : j < length (entries_of s)) (at : i ≡ get_or (order_of s) j 0) (there : entry_with s e ≡ entry_at i (state_of s)) (stands : Stands p e) where
     here : placed (entries_of s) (order_of s) j ≡ entry_with s e
     here = placed_is s j i e at there
 
@@ -52,6 +52,6 @@ module _ (s : List ℕ) (j n set : ℕ) (en : n ≡ length (entries_of s)) where
     unfolding NextInRun
     next_other ne = run_from_lem set (entries_of s) (order_of s) j false (omega (arith, length_order s)) (rw whose (ne_eqb p.set set ne))
 
-    pub next_here : n ≤ entry_limit → p.set ≡ set → NextInRun s set j (rust.Some e)
+    pub next_here : j < entry_limit → p.set ≡ set → NextInRun s set j (rust.Some e)
     unfolding NextInRun
-    next_here few eq = (rw (← here) (run_from_lem set (entries_of s) (order_of s) j true (omega (arith, length_order s)) (rw whose (eq-eqb p.set set eq))), omega arith)
+    next_here few eq = (rw (← here) (run_from_lem set (entries_of s) (order_of s) j true (omega (arith, length_order s)) (rw whose (eq-eqb p.set set eq))), few)

@@ -59,6 +59,11 @@ unfoldable pub maybe_entry_of : rust.Option ℕ → Option ℕ
 maybe_entry_of (rust.Some i) = some i
 maybe_entry_of rust.None = none
 
+-- the number at the place j of the run, or the run ends before
+unfoldable pub NumberInRun : List ℕ → ℕ → rust.Option ℕ → Type 0
+NumberInRun s j rust.None = length (entries_of s) ≤ j
+NumberInRun s j (rust.Some i) = (i ≡ get_or (order_of s) j 0) × ((j < length (entries_of s)) × (j < entry_limit))
+
 -- the number at the place j of the run, if the entry there stands where p does
 unfoldable pub found_at : List ℕ → ℕ → Standing → Option ℕ
 found_at s j p =

@@ -68,7 +68,8 @@ pub fn set_value(store: &mut [u8], i: u32, v: BindingValue)
     }
 }
 
-// The mark can't be the number of a set. As for a value, the word is free where there is none.
+// The mark can't be the number of a set. That is asked, here and by `Storable`, and not said by the type: rows hold any
+// word, so a SetId read from one does too. As for a value, the word is free where there is none.
 #[tactic(auto, using(crate::proofs::ChangeLaws::change_out))]
 pub fn set_nested(store: &mut [u8], i: u32, t: SetId)
     requires { Long store.old × (t.0 < absent) }

@@ -2,12 +2,13 @@
 // earlier first. It is searched by halving.
 ghost use Rattle.std.specs.Prelude.{◌≡◌, ◌≤◌, get_or};
 ghost use Rattle.words.specs.Order.{order};
+ghost use Rattle.spec.specs.State.{source};
 ghost use Rattle.spec.specs.Merge as merge;
 ghost use Rattle.layout.specs.Layout.{entry_limit, Long};
 ghost use Rattle.layout.specs.Texts.{text_in};
 ghost use Rattle.layout.specs.States.{entries_of, state_of, order_of};
-ghost use Rattle.open_sets.specs.Ranks.{standing, InOrder, placed, segment};
-ghost use Rattle.open_sets.specs.Run.{standing_with, stops, Place, maybe_entry_of, found_at, run_from, NextInRun};
+ghost use Rattle.open_sets.specs.Ranks.{standing, InOrder, segment};
+ghost use Rattle.open_sets.specs.Run.{standing_with, stops, Place, maybe_entry_of, NumberInRun, found_at, run_from, NextInRun};
 
 use crate::entries::{entry_at, entry_count};
 use crate::entry::{Entry, SetId};
@@ -17,30 +18,28 @@ use module::TextId;
 use std::cmp::Ordering;
 use words::get32;
 
-// The number of the entry at the place j; past the end 0.
-#[tactic(auto, using(crate::proofs::RunReads::number_here, crate::proofs::RunReads::number_past))]
-fn in_run(store: &[u8], j: u32) -> u32
+// The number of the entry at the place j, if the run goes so far.
+#[tactic(auto, using(crate::proofs::RunReads::number_here), unfolding(crate::specs::Run::NumberInRun))]
+fn in_run(store: &[u8], j: u32) -> Option<u32>
     requires { Long store.now }
-    ensures { result ≡ get_or (order_of store.now) j 0 }
+    ensures { NumberInRun store.now j result }
 {
     if j < entry_count(store) {
-        return get32(store, RUN + 4 * j as usize);
+        return Some(get32(store, RUN + 4 * j as usize));
     }
-    0
+    None
 }
 
-// How the entry at the place j stands to p.
+// How the entry i stands to p.
 #[tactic(auto, using(crate::proofs::RunReads::compared))]
-fn compare_at(store: &[u8], j: u32, p: Standing) -> Ordering
+fn compare_entry(store: &[u8], i: u32, p: Standing) -> Ordering
     requires { Long store.now }
-    ensures { result ≡ order (standing (placed (entries_of store.now) (order_of store.now) j)) (standing_with store.now p) }
+    ensures { result ≡ order (standing (get_or (entries_of store.now) i (source 0 0))) (standing_with store.now p) }
 {
-    let e = entry_at(store, in_run(store, j));
-    compare_standings(store, standing_of(e), p)
+    compare_standings(store, standing_of(entry_at(store, i)), p)
 }
 
-// Whether the search below stops at an entry that compares so. The bool turns one comparison: a closure in its place
-// would say the same in more words.
+// Whether the search below stops at an entry that compares so.
 #[tactic(auto, unfolding(crate::specs::Run::stops))]
 fn stops(o: Ordering, past: bool) -> bool
     ensures { result ≡ stops past o }
@@ -53,28 +52,24 @@ pub fn place(store: &[u8], p: Standing, past: bool) -> u32
     requires { Long store.now }
     ensures { Place past p store.now result }
 {
-    let mut low: u32 = 0;
-    let mut high = entry_count(store);
-    // No `partition_point`: the run lies as words in the bytes of the store, which the hosts own, and is no slice.
-    while low < high {
-        let middle = low + (high - low) / 2;
-        if stops(compare_at(store, middle, p), past) {
-            high = middle;
-        } else {
-            low = middle + 1;
-        }
-    }
-    low
+    let end = RUN + 4 * entry_count(store) as usize;
+    let (numbers, _) = store[RUN..end].as_chunks::<4>();
+    let q = numbers.partition_point(|number| {
+        let o = compare_entry(store, u32::from_le_bytes(*number), p);
+        !stops(o, past)
+    });
+    q as u32
 }
 
 // The entry at the place j, if it stands where p does.
-#[tactic(auto, unfolding(crate::specs::Run::maybe_entry_of, crate::specs::Run::found_at))]
+#[tactic(auto, unfolding(crate::specs::Run::maybe_entry_of, crate::specs::Run::found_at, crate::specs::Run::NumberInRun))]
 fn found_at(store: &[u8], j: u32, p: Standing) -> Option<u32>
     requires { Long store.now }
     ensures { maybe_entry_of result ≡ found_at store.now j p }
 {
-    if j < entry_count(store) && compare_at(store, j, p).is_eq() {
-        return Some(in_run(store, j));
+    let i = in_run(store, j)?;
+    if compare_entry(store, i, p).is_eq() {
+        return Some(i);
     }
     None
 }
@@ -108,17 +103,15 @@ pub fn first_of(store: &[u8], s: SetId) -> u32
 }
 
 // The entry at the place j, if it is one of the set.
-#[tactic(auto, using(crate::proofs::RunSets::next_past, crate::proofs::RunSets::next_other, crate::proofs::RunSets::next_here))]
+#[tactic(auto, using(crate::proofs::RunSets::next_past, crate::proofs::RunSets::next_other, crate::proofs::RunSets::next_here), unfolding(crate::specs::Run::NumberInRun))]
 pub fn entry_of(store: &[u8], s: SetId, j: u32) -> Option<Entry>
     requires { Long store.now }
     ensures { NextInRun store.now s.0 j result }
 {
-    if j < entry_count(store) {
-        let e = entry_at(store, in_run(store, j));
-        let p = standing_of(e);
-        if p.set == s.0 {
-            return Some(e);
-        }
+    let e = entry_at(store, in_run(store, j)?);
+    let p = standing_of(e);
+    if p.set == s.0 {
+        return Some(e);
     }
     None
 }

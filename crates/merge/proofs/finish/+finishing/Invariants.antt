@@ -16,8 +16,8 @@ decreases-finish_expr l = 4 * l.bound
 abbrev pub decreases-finish_value : goal.decreases-finish_value
 decreases-finish_value l = 4 * l.bound + 1
 
-abbrev pub invariant-finish-loop-e : goal.invariant-finish-loop-e
-invariant-finish-loop-e l = Going l.bound l.s.0 l.initial.store l.initial.j l.store l.j
+abbrev pub invariant-finish-loop-j : goal.invariant-finish-loop-j
+invariant-finish-loop-j l = Going l.bound l.s.0 l.initial.store l.initial.j l.store l.j
 
-abbrev pub decreases-finish-loop-e : goal.decreases-finish-loop-e
-decreases-finish-loop-e l = entry_limit - l.j
+abbrev pub decreases-finish-loop-j : goal.decreases-finish-loop-j
+decreases-finish-loop-j l = entry_limit - l.j

@@ -1,10 +1,18 @@
 -- `open_sets::run::place` meets its contract.
-use Rattle.open_sets.proofs.RunReads.{search_left, search_right}
-use native.Mathlib.Omega.{arith}
+use Rattle.std.proofs.Common.{rules, ◌≡◌, length}
+use Rattle.std.proofs.lemmas.List.Sorted.{IsPartitionPoint-from_clause}
+use Rattle.open_sets.proofs.RunReads.{parted, first_place, goes_on}
 use Rattle.open_sets.proofs.run.place.Goals as goal
 
-pub loop-low-preserved-then-stops : goal.loop-low-preserved-then-stops
-loop-low-preserved-then-stops c = search_left _ _ _ c.loop-low.invariant (omega arith) (omega arith) c.compare_at.ensures c.stops.ensures c.if-stops.true
-
-pub loop-low-preserved : goal.loop-low-preserved
-loop-low-preserved c = search_right _ _ _ c.loop-low.invariant (omega arith) (omega arith) c.compare_at.ensures c.stops.ensures c.if-stops.false
+pub returns : goal.returns
+returns c =
+    let s = c.args.store.now in
+    let past = c.args.past in
+    let p = c.args.p in
+    let byte = c.type_inv.store in
+    let count = c.entry_count.ensures in
+    let front = c.as_chunks.ensures.front in
+    let many : length c.as_chunks.result.0.now ≡ c.entry_count.result = search rules in
+    let found = c.partition_point-q.ensures in
+    first_place s byte past p c.requires _ count.0 count.1 _ front many _ found.bound
+    (λ o. IsPartitionPoint-from_clause (goes_on past p s) _ _ found.partitioned (parted s byte past p c.requires _ count.0 count.1 _ front many o) (λ a r q k. search rules))
