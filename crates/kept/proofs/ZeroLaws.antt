@@ -2,7 +2,7 @@
 use mathlib.Core.Path.{◌≡◌, refl, ◌∙◌}
 use mathlib.Core.Logic.{◌⊎◌, inl, inr, ⊎_elim}
 use mathlib.Core.Bool.{Bool, true, false}
-use mathlib.Core.List.{List, [], ◌∷◌}
+use mathlib.Core.List.{List}
 use Prim.Native.Nat.{ℕ, ◌+◌, ◌*◌, ◌≤◌, ◌<◌}
 use native.Mathlib.Omega.{arith}
 use Rattle.std.proofs.Math.Nat.{mul-le-mul_left, mul-add}
@@ -12,8 +12,8 @@ use Rattle.words.specs.Words.{word, set_word}
 use Rattle.words.proofs.WordLaws.{length_set_word, word_set_word_same, word_set_word_other}
 use Rattle.layout.specs.Layout.{exprs_at, sheet_at, Long}
 use Rattle.layout.specs.Changes.{Outside}
-use Rattle.layout.proofs.Frames.{clear_of, wrote_none}
-use Rattle.layout.proofs.WriteLaws.{still_set_word, still_none, still_then}
+use Rattle.layout.proofs.Frames.{clear_of}
+use Rattle.layout.proofs.WriteLaws.{still_set_word, still_then}
 use Rattle.kept.specs.Zeroes.{Zeroed}
 
 -- one row more

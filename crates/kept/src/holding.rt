@@ -13,32 +13,21 @@ use module::{NameId, ScopeId};
 use words::get32;
 
 // Whether the name x is entered in the scope s. The table is read from the first of its names on.
-#[tactic(auto, using(crate::proofs::HoldingLaws::names_begun, crate::proofs::HoldingLaws::name_found, crate::proofs::HoldingLaws::name_passed, crate::proofs::HoldingLaws::name_lacked), unfolding(crate::proofs::HoldingLaws::entered_from))]
 fn holds_name(store: &[u8], s: ScopeId, x: NameId) -> bool
     requires { Long store.now × (s.0 < scope_limit) }
     ensures { result ≡ holds x.0 (scope_at (scopes_in store.now).scopes s.0).kind }
 {
-    let n = entered_count(store, s);
     let from = in_use(store, SCOPES + SCOPE_ROW * s.0 as usize, NAME_LIMIT);
-    for i in 0..n {
-        if x.0 == get32(store, ENTERED + 4 * (from as usize + i as usize)) {
-            return true;
-        }
-    }
-    false
+    (0..entered_count(store, s)).any(|i| x.0
+        == get32(store, ENTERED + 4 * (from as usize + i as usize)))
 }
 
 // Every entered name is looked at once at most, where the scopes lie one after the other as in a sound store.
-#[tactic(auto, using(crate::proofs::HoldingLaws::scopes_begun, crate::proofs::HoldingLaws::scope_found, crate::proofs::HoldingLaws::scope_passed, crate::proofs::HoldingLaws::scope_lacked), unfolding(module::specs::Ids::scope_of))]
 pub fn scope_holding(store: &[u8], x: NameId) -> Option<ScopeId>
     requires { Long store.now }
     ensures { scope_of result ≡ holder (scopes_in store.now) x.0 }
 {
-    let n = in_use(store, SCOPE_COUNT, SCOPE_LIMIT);
-    for i in 0..n {
-        if holds_name(store, ScopeId(i), x) {
-            return Some(ScopeId(i));
-        }
-    }
-    None
+    (0..in_use(store, SCOPE_COUNT, SCOPE_LIMIT))
+        .find(|i| holds_name(store, ScopeId(*i), x))
+        .map(ScopeId)
 }

@@ -17,7 +17,7 @@ use module::{ExprId, NameId};
 use words::{get32, put32};
 
 // How many references there is room for, as a place is.
-const ROOM: usize = REFERENCE_LIMIT as usize;
+const REFERENCE_ROOM: usize = REFERENCE_LIMIT as usize;
 
 // ---- reading
 // How many references a name has.
@@ -58,6 +58,7 @@ pub fn clear_references(store: &mut [u8])
 }
 
 // The i-th reference, from 0 on, of the name x, while the names before it have their lists.
+// As `enter_name` writes a name. One function for both would take six parameters in place of a few lines.
 pub fn add_reference(store: &mut [u8], x: NameId, i: u32, e: ExprId)
     requires { Long store.old }
     ensures { Refers x.0 i e.0 store.old store.new }
@@ -67,7 +68,7 @@ pub fn add_reference(store: &mut [u8], x: NameId, i: u32, e: ExprId)
         return;
     }
     let at = get32(store, FIRSTS + 4 * name as usize) as usize + i as usize;
-    if ROOM <= at {
+    if REFERENCE_ROOM <= at {
         return;
     }
     put32(store, REFERENCES + 4 * at, e.0);
@@ -83,7 +84,7 @@ pub fn end_references(store: &mut [u8], x: NameId, n: u32)
         return;
     }
     let first = get32(store, FIRSTS + 4 * name as usize);
-    if ROOM < first as usize + n as usize {
+    if REFERENCE_ROOM < first as usize + n as usize {
         return;
     }
     put32(store, FIRSTS + 4 * name as usize + 4, first + n);

@@ -27,9 +27,10 @@ use module::{Counter, ExprId, NameId, ScopeId};
 use words::{get32, put32};
 
 // How many names can be entered, as a place is.
-const ROOM: usize = NAME_LIMIT as usize;
+const ENTERED_ROOM: usize = NAME_LIMIT as usize;
 
 // ---- reading
+// How long the list of scopes is. The readers of rows call `in_use` itself: they need its limit too.
 #[tactic(auto, using(crate::proofs::ScopeReads::length_scopes))]
 pub fn scope_count(store: &[u8]) -> u32
     requires { Long store.now }
@@ -183,7 +184,7 @@ pub fn enter_name(store: &mut [u8], i: u32, x: NameId)
 {
     let n = in_use(store, SCOPE_COUNT, SCOPE_LIMIT);
     let at = get32(store, SCOPES + SCOPE_ROW * n as usize) as usize + i as usize;
-    if ROOM <= at {
+    if ENTERED_ROOM <= at {
         return;
     }
     put32(store, ENTERED + 4 * at, x.0);
@@ -212,7 +213,7 @@ pub fn open_scope(store: &mut [u8], parent: ScopeId, n: u32) -> ScopeId
         return ScopeId(SCOPE_LIMIT);
     };
     let first = get32(store, SCOPES + SCOPE_ROW * count.used as usize);
-    if ROOM < first as usize + n as usize {
+    if ENTERED_ROOM < first as usize + n as usize {
         return ScopeId(SCOPE_LIMIT);
     }
     put_scope(store, count, parent.0 + 1, 0, first + n);

@@ -46,6 +46,7 @@ pub fn list_references(store: &mut [u8])
     requires { Long store.old }
     ensures { Lists store.old store.new }
 {
+    // Read by `link_references` too: to be given it, that would have to ask its caller for just this number.
     let n = at_most(get32(store, NAME_COUNT), NAME_LIMIT);
     link_references(store);
     clear_references(store);

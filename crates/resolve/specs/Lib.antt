@@ -2,4 +2,3 @@ pub mod Chain
 pub mod Definitions
 pub mod Search
 pub mod Withs
-pub mod Names

@@ -4,6 +4,8 @@
 // One name, x, is read as if it had the bytes `text`, so that what a change would make of an answer is found by reading
 // alone. The sought text is lent too: its place in the store is found once, and not for every name that it is held
 // against.
+//
+// x and `text` are no struct: each contract would take it apart, and each call from outside would put it together.
 ghost use Rattle.std.specs.Prelude.{◌≡◌};
 ghost use Rattle.std.proofs.Math.ListN.{get_elem?};
 ghost use Rattle.words.specs.Equality.{equalb};
@@ -59,6 +61,7 @@ pub fn defined_in(store: &[u8], s: ScopeId, sought: &[u8], x: NameId, text: &[u8
     ensures { name_of result ≡ defined_in (text_of_name (set_name x.0 text.now (module_in store.now))) sought.now (scope_at (scopes_in store.now).scopes s.0).kind }
 {
     let n = entered_count(store, s);
+    // Tried as `(0..n).rev().find_map(..)`: the proof, which goes by the names that are left, didn't close.
     for i in (0..n).rev() {
         if let Some(y) = entered_as(store, s, i, sought, x, text) {
             return Some(y);

@@ -24,7 +24,8 @@ fn write_references(store: &[u8], x: NameId, buffer: &mut [u8], n: u32)
     }
 }
 
-// Tells how many there are, and lists them where the buffer has room for all.
+// Tells how many there are, and lists them where the buffer has room for all. As `list_withs`: one function for both
+// would take the writing as a closure, and what it promises would have to be asked of that; it would be no plainer.
 pub fn list_kept_references(store: &[u8], x: NameId, buffer: &mut [u8]) -> u32
     requires { Long store.now }
     ensures { Lists (kept_references (kept_in store.now) x.0) buffer.old result buffer.new }

@@ -11,10 +11,9 @@ ghost use Rattle.resolve.specs.Search.{found_of};
 
 use crate::chain::ScopeChain;
 use crate::definitions::defined_in;
-use crate::withs::is_with;
 use module::{NameId, ScopeId};
 
-#[tactic(auto, using(crate::proofs::ChainLaws::one_comes, crate::proofs::ChainLaws::none_comes, crate::proofs::IdLaws::a_name_lem, crate::proofs::IdLaws::no_name, crate::proofs::SearchLaws::search_here, crate::proofs::SearchLaws::search_on, crate::proofs::SearchLaws::search_through), unfolding(crate::specs::Search::found_of, spec::specs::Answer::innermost))]
+#[tactic(auto, using(crate::proofs::ChainLaws::one_comes, crate::proofs::ChainLaws::none_comes, crate::proofs::IdLaws::a_name_lem, crate::proofs::IdLaws::no_name, crate::proofs::SearchLaws::search_here, crate::proofs::SearchLaws::search_on), unfolding(crate::specs::Search::found_of, spec::specs::Answer::innermost))]
 pub fn innermost(
     store: &[u8],
     s: ScopeId,
@@ -25,11 +24,9 @@ pub fn innermost(
     requires { Long store.now }
     ensures { found_of result ≡ answer.innermost (text_of_name (set_name x.0 text.now (module_in store.now))) (scopes_in store.now).scopes sought.now (chain (scopes_in store.now).scopes s.0) }
 {
+    // A With defines no name, so that the search goes on outside of it.
+    // No `find_map`: it would nest two closures, the inner one to pair a name with its scope.
     for i in ScopeChain::new(store, s) {
-        // What a With brings hides no definition, so that the search goes on outside of it.
-        if is_with(store, i) {
-            continue;
-        }
         if let Some(y) = defined_in(store, i, sought, x, text) {
             return Some((i, y));
         }
