@@ -6,6 +6,14 @@ use crate::answer::Answer;
 use layout::tables::{ABSENT, NAME_LIMIT};
 use module::NameId;
 
+// So many names are built in.
+const BUILTINS: u32 = 22;
+
+// The words of the built-in names begin here, and behind them those of the module's own names.
+const FIRST_BUILTIN: u32 = 2;
+
+const FIRST_NAME: u32 = FIRST_BUILTIN + BUILTINS;
+
 // The answer that a word stands for. Any number may stand in a store, so every number is turned into an answer, here
 // alone.
 impl From<u32> for Answer {
@@ -16,8 +24,8 @@ impl From<u32> for Answer {
         match n {
             0 => Answer::Unresolved,
             1 => Answer::Withs,
-            2..=23 => Answer::Builtin(n - 2),
-            _ => Answer::Definition(NameId(n - 24)),
+            FIRST_BUILTIN..FIRST_NAME => Answer::Builtin(n - FIRST_BUILTIN),
+            _ => Answer::Definition(NameId(n - FIRST_NAME)),
         }
     }
 }
@@ -30,8 +38,20 @@ pub fn answer_word(a: Answer) -> u32
 {
     match a {
         Answer::Unresolved => 0,
-        Answer::Definition(x) => { if x.0 < NAME_LIMIT { 24 + x.0 } else { ABSENT } }
-        Answer::Builtin(i) => { if i < 22 { 2 + i } else { ABSENT } }
+        Answer::Definition(x) => {
+            if x.0 < NAME_LIMIT {
+                FIRST_NAME + x.0
+            } else {
+                ABSENT
+            }
+        }
+        Answer::Builtin(i) => {
+            if i < BUILTINS {
+                FIRST_BUILTIN + i
+            } else {
+                ABSENT
+            }
+        }
         Answer::Withs => 1,
     }
 }

@@ -1,12 +1,16 @@
 -- Texts, keys and kinds of names from what was read of a node. Assumes nothing.
-use mathlib.Core.Path.{◌≡◌, sym, ap, ◌∙◌}
-use mathlib.Core.Bool.{true, false}
+use mathlib.Core.Path.{◌≡◌, refl, sym, ap, ◌∙◌}
+use mathlib.Core.Bool.{Bool, true, false, ◌||◌}
 use mathlib.Core.List.{List, [], ◌∷◌}
 use mathlib.Core.Option.{Option, none, some}
-use Prim.Native.Nat.{ℕ}
+use Prim.Native.Nat.{ℕ, zero, suc, ◌+◌, ◌<◌}
+use native.Mathlib.Omega.{arith}
+use lib.Dec.{eqb}
+use lib.ListN.{length}
 use borrow.Author.Tests.{eq-eqb, ne_eqb}
 use Rattle.spec.specs.Basics.{Text, NodeId, ExprId}
 use Rattle.spec.specs.Sheet.{Node}
+use Rattle.spec.specs.Tree.{node_at}
 use Rattle.spec.specs.Keys as spec
 use Rattle.spec.specs.Keys.{kind, flag, text, kid, items, flatten_paren, literal_of, get_str_literal, str_key, inside_dynamic, attr_kind}
 use Rattle.spec.specs.Lower.{has_interpolation}
@@ -17,8 +21,9 @@ use Rattle.layout.specs.Layout.{absent}
 use Rattle.layout.specs.Texts.{text_in}
 use Rattle.layout.proofs.Frames.{text_absent}
 use Rattle.keys.specs.Items.{items_from, First, Next}
-use Rattle.keys.specs.AstUtils.{Interpolated}
-use Rattle.keys.proofs.ItemLaws.{items_are, next_first, next_is}
+use Rattle.keys.specs.AstUtils.{interpolation, interpolation_at}
+use Rattle.keys.proofs.ItemLaws.{items_are, items_past, items_none, items_some, next_first, next_is, kid_read, kid_missing}
+use Rattle.std.specs.List.{list_any, range_with_len}
 use Rattle.std.specs.Option.{is_some}
 use Rattle.std.specs.Prelude as rust
 
@@ -51,29 +56,29 @@ module _ (nodes : List Node) (n : NodeId) where
       unfolding get_str_literal literal_of
       part_other h = rw (one_part, ← e, ne_eqb k 32 h)
 
--- ---- whether one of them is an interpolation: none up to a place is
-pub record Seeking (nodes : List Node) (n : NodeId) (at : ℕ) : Type 0 where
-  pub same : (lower : NodeId → Low ExprId) (merge : SetId → NodeId → Low (Unit {0})) → has_interpolation nodes lower merge (items nodes n) ≡ has_interpolation nodes lower merge (items_from nodes at n)
+-- ---- whether one of them is an interpolation
+module _ (nodes : List Node) (n : NodeId) where
+  module _ (m : rust.Option code_id.NodeId) (i : ℕ) (e : node_of m ≡ kid nodes i n) where
+    pub interpolation_gone : m ≡ rust.None → false ≡ interpolation_at nodes n i
+    unfolding interpolation_at interpolation
+    interpolation_gone q = rw (← kid_missing q e) refl
 
-pub seeking_start : (nodes : List Node) (n : NodeId) → Seeking nodes n 0
-seeking_start nodes n = record { same = λ lower merge. ap (has_interpolation nodes lower merge) (sym (items_are nodes n)) }
+    pub interpolation_told : (p : code_id.NodeId) → m ≡ rust.Some p → (b : Bool) → (b ≡ true → kind nodes p.0 ≡ 33) → (b ≡ false → kind nodes p.0 ≡ 33 → ⊥) → b ≡ interpolation_at nodes n i
+    unfolding interpolation_at interpolation
+    interpolation_told p q true y f = rw (← kid_read q e, eq-eqb (kind nodes p.0) 33 (y refl)) refl
+    interpolation_told p q false y f = rw (← kid_read q e, ne_eqb (kind nodes p.0) 33 (f refl)) refl
 
-module _ {nodes : List Node} {n : NodeId} {at : ℕ} (s : Seeking nodes n at) where
-  pub seeking_end : items_from nodes at n ≡ [] → Interpolated nodes n false
-  unfolding has_interpolation
-  seeking_end e = record { says = λ lower merge. sym (s.same lower merge ∙ ap (has_interpolation nodes lower merge) e) }
+  pub any_kids : (lower : NodeId → Low ExprId) (merge : SetId → NodeId → Low (Unit {0})) (k i : ℕ) → i + k ≡ length (node_at nodes n).kids → list_any (interpolation_at nodes n) (range_with_len i k) ≡ has_interpolation nodes lower merge (items_from nodes i n)
+  unfolding has_interpolation interpolation_at interpolation
+  any_kids lower merge zero i e = rw (items_past nodes n i (omega arith)) refl
+  any_kids lower merge (suc k) i e = go (any_kids lower merge k (i + 1) (omega arith)) (kid nodes i n) refl
+    where
+      h : i < length (node_at nodes n).kids
+      h = omega arith
 
-  pub seeking_on : {i : ℕ} → items_from nodes at n ≡ items_from nodes i n → Seeking nodes n i
-  seeking_on q = record { same = λ lower merge. s.same lower merge ∙ ap (has_interpolation nodes lower merge) q }
-
-  module _ (p i : ℕ) (a : items_from nodes at n ≡ p ∷ items_from nodes i n) where
-    pub seeking_found : kind nodes p ≡ 33 → Interpolated nodes n true
-    unfolding has_interpolation
-    seeking_found h = record { says = λ lower merge. sym (s.same lower merge ∙ rw (a, eq-eqb (kind nodes p) 33 h)) }
-
-    pub seeking_more : (kind nodes p ≡ 33 → ⊥) → Seeking nodes n i
-    unfolding has_interpolation
-    seeking_more h = record { same = λ lower merge. s.same lower merge ∙ rw (a, ne_eqb (kind nodes p) 33 h) }
+      go : list_any (interpolation_at nodes n) (range_with_len (i + 1) k) ≡ has_interpolation nodes lower merge (items_from nodes (i + 1) n) → (o : Option NodeId) → o ≡ kid nodes i n → list_any (interpolation_at nodes n) (range_with_len i (suc k)) ≡ has_interpolation nodes lower merge (items_from nodes i n)
+      go rest none q = rw (items_none nodes n i h q, ← q) rest
+      go rest (some p) q = rw (items_some nodes n i h p q, ← q) (ap (λ (b : Bool). eqb (kind nodes p) 33 || b) rest)
 
 -- ---- keys
 module _ (nodes : List Node) where

@@ -1,10 +1,10 @@
 -- Keys: what each is in the definitions; and the small questions to a node that the definitions ask where they stand.
-use Rattle.std.specs.Prelude.{◌≡◌, Bool, List, ℕ, eqb, if◌then◌else◌}
+use Rattle.std.specs.Prelude.{◌≡◌, Bool, false, List, ℕ, eqb, if◌then◌else◌}
 use Rattle.std.proofs.Math.Option.{Option, none, some}
 use Rattle.spec.specs.Basics.{Text, NodeId, ExprId}
 use Rattle.spec.specs.Sheet.{Node}
 use Rattle.spec.specs.Keys as spec
-use Rattle.spec.specs.Keys.{flag, text, items}
+use Rattle.spec.specs.Keys.{flag, kind, text, kid, items}
 use Rattle.spec.specs.Lower.{has_interpolation}
 use Rattle.spec.specs.Module.{NameKind, PlainAttrset, RecAttrset}
 use Rattle.spec.specs.State.{SetId, Low}
@@ -24,6 +24,14 @@ ident_name nodes n = if eqb (flag nodes n) 1 then some (text nodes n) else none
 -- flag 1 says that a set is rec
 abbrev pub set_kind : List Node → NodeId → NameKind
 set_kind nodes n = if eqb (flag nodes n) 1 then RecAttrset else PlainAttrset
+
+-- whether what is at a place of a node is an interpolation
+unfoldable pub interpolation : List Node → Option NodeId → Bool
+interpolation nodes none = false
+interpolation nodes (some p) = eqb (kind nodes p) 33
+
+unfoldable pub interpolation_at : List Node → NodeId → ℕ → Bool
+interpolation_at nodes n i = interpolation nodes (kid nodes i n)
 
 -- Whether an item of a node is an interpolation. The definition stands among those that lower, and asks nothing of
 -- them.

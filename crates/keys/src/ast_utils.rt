@@ -7,7 +7,7 @@ ghost use Rattle.module.specs.Kinds.{kind_of};
 ghost use Rattle.layout.specs.Layout.{Long};
 ghost use Rattle.layout.specs.Nodes.{nodes_of};
 ghost use Rattle.layout.specs.Texts.{maybe_text};
-ghost use Rattle.keys.specs.AstUtils.{attr_kind_of, ident_name, set_kind, Interpolated};
+ghost use Rattle.keys.specs.AstUtils.{attr_kind_of, ident_name, set_kind, interpolation_at, Interpolated};
 
 use crate::items::next_item;
 use intake::{kid, kid_count, node_flag, node_text, syntax_kind};
@@ -15,7 +15,7 @@ use layout::tables::ABSENT;
 use module::{NameKind, NodeId, SyntaxKind, TextId};
 
 // Nodes are nested at most so deep.
-const DEPTH: u32 = 256;
+pub const DEPTH: u32 = 256;
 
 // The number of the empty text.
 const EMPTY: TextId = TextId(ABSENT);
@@ -81,19 +81,23 @@ pub fn name_kind_of_set(store: &[u8], n: NodeId) -> NameKind
     }
 }
 
+// Whether there is an interpolation at a place of a node.
+fn is_interpolation(store: &[u8], n: NodeId, i: u32) -> bool
+    requires { Long store.now }
+    ensures { result ≡ interpolation_at (nodes_of store.now) n.0 i }
+{
+    let Some(part) = kid(store, n, i) else {
+        return false;
+    };
+    syntax_kind(store, part) == Some(SyntaxKind::Interpolation)
+}
+
 // Whether a part of a Str or a Path is an interpolation.
 pub fn has_interpolation(store: &[u8], n: NodeId) -> bool
     requires { Long store.now }
     ensures { Interpolated (nodes_of store.now) n.0 result }
 {
-    for i in 0..kid_count(store, n) {
-        if let Some(part) = kid(store, n, i) {
-            if syntax_kind(store, part) == Some(SyntaxKind::Interpolation) {
-                return true;
-            }
-        }
-    }
-    false
+    (0..kid_count(store, n)).any(|i| is_interpolation(store, n, i))
 }
 
 // The key that a Str is.
@@ -125,6 +129,7 @@ pub fn attr_kind(store: &[u8], a: NodeId) -> AttrKind
     requires { Long store.now }
     ensures { attr_kind_of store.now result ≡ attr_kind (nodes_of store.now) a.0 }
 {
+    // No `match` (tried): in its arm `_` the proof can't cite that the kind is none of those above.
     let kind = syntax_kind(store, a);
     if kind == Some(SyntaxKind::Ident) {
         AttrKind::Static(node_text(store, a))

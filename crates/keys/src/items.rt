@@ -11,6 +11,7 @@ pub fn next_item(store: &[u8], n: NodeId, i: u32) -> Option<(NodeId, u32)>
     requires { Long store.now }
     ensures { Next (nodes_of store.now) i n.0 result }
 {
+    // No `find_map`: the library has no law of what it finds. By `find` the kid that is found would be read twice.
     for at in i..kid_count(store, n) {
         if let Some(k) = kid(store, n, at) {
             return Some((k, at + 1));

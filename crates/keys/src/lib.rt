@@ -7,8 +7,8 @@ mod items;
 mod literals;
 
 pub use ast_utils::{
-    AttrKind, attr_kind, flatten_paren, get_str_literal, has_interpolation, name_kind_of_set,
-    name_of_ident,
+    AttrKind, DEPTH, attr_kind, flatten_paren, get_str_literal, has_interpolation,
+    name_kind_of_set, name_of_ident,
 };
 pub use items::next_item;
 pub use literals::literal_of;

@@ -8,15 +8,12 @@ ghost use Rattle.layout.specs.Texts.{text_in};
 ghost use Rattle.keys.specs.Literals.{capped, float_held, integer_held, literal_held, LiteralRead};
 
 use intake::{node_flag, node_text};
-use module::{Literal, NodeId, SyntaxKind, TextId, float_of, integer_of};
+use module::{
+    INFINITY_BITS, LARGEST_INTEGER, Literal, NodeId, SyntaxKind, TextId, float_of, integer_of,
+};
 use texts::text_bytes;
 
 const TOO_LARGE: u64 = 9223372036854775808;
-
-const LARGEST_INTEGER: u64 = 9223372036854775807;
-
-// The bits of infinity. Those of a NaN are above them.
-const LARGEST_FLOAT: u64 = 9218868437227405312;
 
 // One digit more, in the base. What is too large stays so with every digit more.
 fn with_digit(base: u64, value: u64, digit: u8) -> u64
@@ -56,7 +53,7 @@ fn float_literal(store: &[u8], n: NodeId) -> Option<Literal>
         return None;
     }
     let bits = bits_in(store, node_text(store, n));
-    if LARGEST_FLOAT < bits {
+    if INFINITY_BITS < bits {
         return None;
     }
     Some(Literal::Float(float_of(bits)))

@@ -4,8 +4,12 @@
 // `depth` is how many levels of nodes are left; nodes of an accepted sheet are never deeper. Lists wait
 // as items until the expression that has them is allocated.
 //
-// `store`, `depth` and the set `s` are no struct: the store is the host's memory, which every call here writes, `depth`
-// is what the proof that the calls end counts down, and only the functions of sets have an `s`.
+// `store`, `depth` and the set `s` are no struct: each function has another choice of them, so that a struct would be
+// taken apart and built anew at each call.
+//
+// Six loops go over the kids of a node and take those that are there. No function does them in one with a closure or an
+// iterator as its parameter: each body calls a function of this cycle, and that the calls end can't be proved of
+// functions of one cycle that differ in their type parameters.
 #![tactic(auto, unfolding(rows::specs::Decoded::ValidExpr, module::specs::Literals::Valid))]
 
 ghost use Rattle.std.specs.Prelude.{◌≡◌, ◌∷◌, map, suc, ◌+◌, ◌≤◌};
@@ -33,7 +37,7 @@ ghost use Rattle.lower.specs.Reads.{attrs_from, attrs_left};
 use crate::leaves::{
     alloc_lone, attr_name, ident, literal, lower_name, missing_node, pair_form, uri,
 };
-use crate::reads::{Param, Rest, first_entry, into_set, param_of};
+use crate::reads::{Param, Rest, first_entry, into_set, opened_now, param_of};
 use intake::{kid, kid_count, node_flag, node_pointer, node_text, syntax_kind};
 use keys::{AttrKind, attr_kind, get_str_literal, has_interpolation, name_kind_of_set};
 use merge::{
@@ -43,7 +47,7 @@ use merge::{
 use module::{
     BindingValue, Expr, ExprId, Item, Literal, NameKind, NodeId, Pointer, SyntaxKind, TextId,
 };
-use open_sets::{SetId, cut, entry_count, open_set, set_count};
+use open_sets::{SetId, cut, open_set};
 use store::{alloc_expr, alloc_missing, push_item, waiting_count};
 
 // lower_expr and lower_expr_inner: by the kind of the node.
@@ -252,6 +256,7 @@ fn attr(store: &mut [u8], depth: u32, n: NodeId) -> ExprId
     requires { Long store.old }
     ensures { Lowering 0 (below n.0) one_expr (λ nodes. lower_attr nodes (lower_at depth nodes) (merge_at depth nodes) n.0) store.old result.0 store.new }
 {
+    // No `match`, as in `keys::attr_kind`: in its arm `_` the proof can't cite that the kind is none of those above.
     let kind = syntax_kind(store, n);
     if kind == Some(SyntaxKind::Dynamic) {
         let place = kid(store, n, 0);
@@ -373,6 +378,7 @@ fn set(store: &mut [u8], depth: u32, n: NodeId) -> ExprId
     let base = waiting_count(store);
     let p = node_pointer(store, n);
     let kind = name_kind_of_set(store, n);
+    // Read from the flag as the definition reads it; `kind` would say it by one more match.
     let is_rec = node_flag(store, n) == 1;
     binds(store, depth, kind, n);
     alloc_expr(store, Expr::AttrSet(is_rec), base, p)
@@ -400,13 +406,12 @@ fn binds(store: &mut [u8], depth: u32, kind: NameKind, n: NodeId)
     requires { Long store.old }
     ensures { Collecting 0 (λ nodes. sizes nodes (merging.entries_of nodes (lower_at depth nodes) (merge_at depth nodes) n.0)) one_set binding_items (λ nodes. merging.desugar nodes (lower_at depth nodes) (merge_at depth nodes) (kind_of kind) n.0) store.old store.new }
 {
-    let sets = set_count(store);
-    let open = entry_count(store);
+    let around = opened_now(store);
     let p = node_pointer(store, n);
     let s = open_set(store, kind, p);
     entries(store, depth, s, n);
     finish_set(store, s);
-    cut(store, sets, open);
+    cut(store, around.sets, around.entries);
 }
 
 // merge_bindings, one level deeper: the entries join those that the set s has.
@@ -561,12 +566,11 @@ fn nest(
     requires { Long store.old }
     ensures { Lowering 0 (λ nodes. sized nodes n.0 + (sizes nodes (attrs_left nodes rest) + room.place nodes (node_of value))) one_set (λ nodes. nested_expr nodes (lower_at depth nodes) (merge_at depth nodes) (pointer_of p) n.0 (attrs_left nodes rest) (node_of value)) store.old result.0 store.new }
 {
-    let sets = set_count(store);
-    let open = entry_count(store);
+    let around = opened_now(store);
     let t = open_set(store, NameKind::PlainAttrset, p);
     nested(store, depth, t, n, rest, value);
     let e = finish_nested(store, t);
-    cut(store, sets, open);
+    cut(store, around.sets, around.entries);
     e
 }
 

@@ -1,7 +1,8 @@
 // What lowering reads before it writes.
-ghost use Rattle.std.specs.Prelude.{◌≡◌, eqb};
+ghost use Rattle.std.specs.Prelude.{◌≡◌, eqb, length};
 ghost use Rattle.layout.specs.Layout.{Long};
 ghost use Rattle.layout.specs.Nodes.{nodes_of};
+ghost use Rattle.layout.specs.States.{sets_of, entries_of};
 ghost use Rattle.layout.specs.Texts.{text_in};
 ghost use Rattle.std.proofs.Math.Option.{some};
 ghost use Rattle.spec.specs.Keys.{flag, kid_of};
@@ -12,7 +13,7 @@ use intake::{kid, node_flag, syntax_kind};
 use keys::next_item;
 use merge::nested_at;
 use module::{NodeId, Pattern, SyntaxKind, TextId};
-use open_sets::SetId;
+use open_sets::{SetId, entry_count, set_count};
 
 // The parameter of a Lambda: the Ident that names it, the Pattern whose fields there are, and what the
 // expression says of that.
@@ -131,4 +132,21 @@ pub fn into_set(
     }
     let t = nested_at(store, s, key)?;
     Some((t, v))
+}
+
+// How many sets are open, and how many entries they have: what is opened afterwards is cut off down to these.
+#[derive(Clone, Copy)]
+pub struct Opened {
+    pub sets: u32,
+    pub entries: u32,
+}
+
+pub fn opened_now(store: &[u8]) -> Opened
+    requires { Long store.now }
+    ensures { (result.sets ≡ length (sets_of store.now)) × (result.entries ≡ length (entries_of store.now)) }
+{
+    Opened {
+        sets: set_count(store),
+        entries: entry_count(store),
+    }
 }

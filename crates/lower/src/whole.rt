@@ -3,6 +3,7 @@ ghost use Rattle.layout.specs.Layout.{Long};
 ghost use Rattle.lower.specs.Whole.{LowersAll};
 
 use crate::ctx::expr;
+use keys::DEPTH;
 use module::NodeId;
 use store::set_entry;
 
@@ -11,6 +12,6 @@ pub fn lower(store: &mut [u8])
     requires { Long store.old }
     ensures { LowersAll store.old store.new }
 {
-    let e = expr(store, 256, NodeId(0));
+    let e = expr(store, DEPTH, NodeId(0));
     set_entry(store, e);
 }

@@ -13,6 +13,7 @@ pub enum NameKind {
 }
 
 impl NameKind {
+    // A method and no `From`: the name says which number it is.
     pub fn number(self) -> u32
         ensures { result ≡ number_of_kind self }
     {

@@ -17,6 +17,8 @@ pub use counter::Counter;
 pub use expr::{Expr, Item, Pattern};
 pub use ids::{BindingValue, ExprId, NameId, NodeId, ScopeId, TextId};
 pub use kinds::NameKind;
-pub use literal::{Literal, bits_of, float_of, integer_of, value_of};
+pub use literal::{
+    INFINITY_BITS, LARGEST_INTEGER, Literal, bits_of, float_of, integer_of, value_of,
+};
 pub use pointer::Pointer;
 pub use syntax_kind::SyntaxKind;

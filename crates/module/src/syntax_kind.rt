@@ -41,6 +41,7 @@ pub enum SyntaxKind {
 }
 
 impl SyntaxKind {
+    // A method and no `From`: the name says which number it is.
     pub fn number(self) -> u32
         ensures { result ≡ number_of_syntax self }
     {

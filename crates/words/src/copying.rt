@@ -2,7 +2,8 @@
 ghost use Rattle.std.specs.Prelude.{◌≡◌, ◌+◌, ◌≤◌, length};
 ghost use Rattle.words.specs.Runs.{run, splice};
 
-// Writes the bytes of t over those of s from `at` on.
+// Writes the bytes of t over those of s from `at` on. It stays a function so that its equation is in the
+// definitions' words (`splice`) at each of its calls.
 pub fn copy_run(s: &mut [u8], at: usize, t: &[u8])
     requires { at + length t.now ≤ length s.old }
     ensures { s.new ≡ splice s.old at t.now }

@@ -5,7 +5,8 @@ ghost use Rattle.words.specs.Order.{order};
 
 use std::cmp::Ordering;
 
-// By the library's order, which is faster than a loop over the bytes (docs/PERFORMANCE.md).
+// By the library's order, which is faster than a loop over the bytes (docs/PERFORMANCE.md). It stays a function so that
+// its equation is in the definitions' words (`order`) at each of its calls.
 pub fn compare(a: &[u8], b: &[u8]) -> Ordering
     ensures { result ≡ order a.now b.now }
 {

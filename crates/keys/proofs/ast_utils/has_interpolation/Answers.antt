@@ -1,31 +1,23 @@
 -- `keys::ast_utils::has_interpolation` meets its contract.
-use Rattle.keys.proofs.ItemLaws.{items_past, items_none, items_some, kid_read, kid_missing}
-use Rattle.intake.proofs.KindLaws.{if_kind, if_other}
-use Rattle.keys.proofs.KeyLaws.{seeking_start, seeking_end, seeking_found, seeking_more, seeking_on}
-use Rattle.module.specs.declared.syntax_kind.SyntaxKind.TheVariants as kind
-use Rattle.module.specs.SyntaxKinds.{number_of_syntax}
+use Rattle.std.proofs.Common.{rules}
+use Rattle.std.proofs.lemmas.Iterator.{YieldsList-from_range}
+use Rattle.std.proofs.lemmas.Iterator.Search.{any_from_yields_List}
+use Rattle.keys.proofs.ItemLaws.{items_are}
+use Rattle.keys.proofs.KeyLaws.{any_kids}
+use Rattle.keys.specs.AstUtils.{interpolation_at}
+use Rattle.layout.specs.Nodes.{nodes_of}
+use Rattle.spec.specs.Lower.{has_interpolation}
+use mathlib.Core.Path.{refl, ap, ◌∙◌}
 use native.Mathlib.Omega.{arith}
-use Rattle.keys.proofs.ast_utils.has_interpolation.Goals.{in-Some+else-eq, in_default}
 use Rattle.keys.proofs.ast_utils.has_interpolation.Goals as goal
 
-pub loop-i-init : goal.loop-i-init
-loop-i-init c = seeking_start _ _
-
-pub returns-then-eq : goal.returns-then-eq
-unfolding number_of_syntax
-returns-then-eq c =
-    seeking_found c.loop-i.invariant _ _ (items_some _ _ _ (omega arith) _ (kid_read c.in-Some.is c.kid.ensures))
-    (if_kind c.syntax_kind.ensures kind.Interpolation c.eq.ensures c.if-eq.true)
-
-pub loop-i-preserved : goal.loop-i-preserved
-unfolding number_of_syntax
-loop-i-preserved c =
-    elim c.match-kid.branch [
-      | in-Some+else-eq w ↦
-          seeking_more c.loop-i.invariant _ _ (items_some _ _ _ (omega arith) _ (kid_read w.in-Some.is c.kid.ensures))
-          (if_other w.syntax_kind.ensures kind.Interpolation w.eq.ensures w.if-eq.false)
-      | in_default w ↦ seeking_on c.loop-i.invariant (items_none _ _ _ (omega arith) (kid_missing w.in_default.is c.kid.ensures))
-    ]
-
 pub returns : goal.returns
-returns c = seeking_end c.loop-i.invariant (items_past _ _ _ (omega arith))
+returns c =
+    let nodes = nodes_of c.args.store.now in
+    let n = c.args.n.0 in
+    record {
+      says = λ lower merge.
+          any_from_yields_List (interpolation_at nodes n) _ _ c.any.result c.any.ensures.ran (YieldsList-from_range 0 c.kid_count.result c.kid_count.result refl (omega arith)) (λ x b q k. search rules)
+          ∙ any_kids nodes n lower merge c.kid_count.result 0 (omega (arith, c.kid_count.ensures))
+          ∙ ap (has_interpolation nodes lower merge) (items_are nodes n);
+    }

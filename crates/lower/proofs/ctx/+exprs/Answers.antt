@@ -56,7 +56,7 @@ attrs-returns t c = attrpath_end _ _ c.in-Some.is (gathering_end c.loop-i.invari
 -- ---- binds
 
 pub binds-returns : goal.binds-returns
-binds-returns t c = desugar_lowers _ _ _ _ c.set_count-sets.ensures.0 c.entry_count-open.ensures.0 c.node_pointer-p.ensures c.open_set-s.ensures.0 c.entries.ensures c.finish_set.ensures c.cut.ensures
+binds-returns t c = desugar_lowers _ _ _ _ c.opened_now-around.ensures.0 c.opened_now-around.ensures.1 c.node_pointer-p.ensures c.open_set-s.ensures.0 c.entries.ensures c.finish_set.ensures c.cut.ensures
 
 -- ---- binop
 
@@ -268,7 +268,7 @@ list-returns t c = list_taken _ _ _ c.waiting_count-base.ensures c.node_pointer-
 -- ---- nest
 
 pub nest-returns : goal.nest-returns
-nest-returns t c = nest_lowers _ _ _ _ _ c.set_count-sets.ensures.0 c.entry_count-open.ensures.0 c.open_set-t.ensures.0 c.nested.ensures c.finish_nested-e.ensures c.cut.ensures
+nest-returns t c = nest_lowers _ _ _ _ _ c.opened_now-around.ensures.0 c.opened_now-around.ensures.1 c.open_set-t.ensures.0 c.nested.ensures c.finish_nested-e.ensures c.cut.ensures
 
 -- ---- nested
 
