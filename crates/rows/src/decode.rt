@@ -6,13 +6,9 @@ ghost use Rattle.layout.specs.Exprs as rows;
 
 use crate::row::{ItemRow, Row};
 use module::{
-    BindingValue, Expr, ExprId, Item, Literal, NameId, Pattern, TextId, float_of, integer_of,
+    BindingValue, Expr, ExprId, INFINITY_BITS, Item, LARGEST_INTEGER, Literal, NameId, Pattern,
+    TextId, float_of, integer_of,
 };
-
-// The bits of infinity, the highest that a float may have, and the highest integer.
-pub const INFINITY: u64 = 9218868437227405312;
-
-pub const HIGHEST: u64 = i64::MAX as u64;
 
 // Two words as one number, the higher first.
 #[tactic(auto, unfolding(layout::specs::Exprs::wide))]
@@ -29,7 +25,7 @@ fn float_expr(row: Row) -> Expr
     ensures { Reads row result }
 {
     let bits = joined(row.a, row.b);
-    if bits <= INFINITY {
+    if bits <= INFINITY_BITS {
         Expr::Literal(Literal::Float(float_of(bits)))
     } else {
         Expr::Missing
@@ -42,7 +38,7 @@ fn integer_expr(row: Row) -> Expr
     ensures { Reads row result }
 {
     let value = joined(row.a, row.b);
-    if value <= HIGHEST {
+    if value <= LARGEST_INTEGER {
         Expr::Literal(Literal::Integer(integer_of(value)))
     } else {
         Expr::Missing

@@ -14,7 +14,7 @@ mod read_names;
 mod row;
 mod source_map;
 
-pub use decode::{HIGHEST, INFINITY, joined};
+pub use decode::joined;
 pub use read_counts::{diagnostic_count, entry, expr_count, lost_count, name_count};
 pub use read_diagnostics::{Diagnostic, lost_pointer, read_diagnostic};
 pub use read_exprs::{

@@ -12,6 +12,7 @@ ghost use Rattle.sheet.specs.Verdicts.{got_span, FormedIn};
 use crate::faults::{Fault, Refused};
 use crate::kinds::TextRule;
 use crate::position::{Position, Span};
+use module::INFINITY_BITS;
 
 fn is_hex(c: u8) -> bool
     ensures { result ≡ is_hex c }
@@ -76,7 +77,7 @@ fn is_float(text: &[u8]) -> bool
     }
     let mut bytes = [0; 8];
     decode_text(text, &mut bytes, 0);
-    u64::from_be_bytes(bytes) <= 0x7ff0_0000_0000_0000
+    u64::from_be_bytes(bytes) <= INFINITY_BITS
 }
 
 // Whether a text fits its kind's rule. A flag is a number, as in the definitions: what it says depends on the kind.

@@ -4,8 +4,8 @@ ghost use Rattle.layout.specs.Exprs.{wide};
 ghost use Rattle.soundness.specs.Sound.{fields_fit};
 
 use crate::counted::CountedStore;
-use module::ExprId;
-use rows::{HIGHEST, INFINITY, Row, joined};
+use module::{ExprId, INFINITY_BITS, LARGEST_INTEGER};
+use rows::{Row, joined};
 use texts::text_fits;
 
 // A number of two words, the higher first, against a limit of two words.
@@ -27,8 +27,8 @@ impl CountedStore<'_> {
             0 | 1 | 8 | 16 | 18 | 19 => true,
             2 | 23 | 25 | 26 => (a < e.0) & (b < e.0),
             3 => (a < e.0) & ((b < e.0) & (c < e.0)),
-            4 => wide_within(a, b, INFINITY),
-            5 => wide_within(a, b, HIGHEST),
+            4 => wide_within(a, b, INFINITY_BITS),
+            5 => wide_within(a, b, LARGEST_INTEGER),
             6 | 7 | 21 => text_fits(self.store, self.counts.texts, a),
             9 | 11 | 13 | 15 | 22 | 24 => a < e.0,
             10 | 12 | 14 => (a < e.0) & (b < self.counts.names),

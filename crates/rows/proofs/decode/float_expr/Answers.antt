@@ -4,5 +4,5 @@ use mathlib.Core.Path.{◌∙◌}
 use native.Mathlib.Omega.{arith}
 use Rattle.rows.proofs.decode.float_expr.Goals as goal
 
-pub returns-then-bits-le-INFINITY : goal.returns-then-bits-le-INFINITY
-returns-then-bits-le-INFINITY c = float_read _ _ c.requires (c.float_of.ensures ∙ c.joined-bits.ensures) (omega arith)
+pub returns-then-bits-le-INFINITY_BITS : goal.returns-then-bits-le-INFINITY_BITS
+returns-then-bits-le-INFINITY_BITS c = float_read _ _ c.requires (c.float_of.ensures ∙ c.joined-bits.ensures) (omega arith)

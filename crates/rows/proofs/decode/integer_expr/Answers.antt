@@ -4,5 +4,5 @@ use mathlib.Core.Path.{◌∙◌}
 use native.Mathlib.Omega.{arith}
 use Rattle.rows.proofs.decode.integer_expr.Goals as goal
 
-pub returns-then-value-le-HIGHEST : goal.returns-then-value-le-HIGHEST
-returns-then-value-le-HIGHEST c = integer_read _ c.integer_of.result c.requires (c.integer_of.ensures.result_value ∙ c.joined-value.ensures) (omega arith) c.integer_of.ensures.not_negative
+pub returns-then-value-le-LARGEST_INTEGER : goal.returns-then-value-le-LARGEST_INTEGER
+returns-then-value-le-LARGEST_INTEGER c = integer_read _ c.integer_of.result c.requires (c.integer_of.ensures.result_value ∙ c.joined-value.ensures) (omega arith) c.integer_of.ensures.not_negative
