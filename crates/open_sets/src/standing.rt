@@ -31,18 +31,18 @@ pub fn standing_of(e: Entry) -> Standing
     ensures { Stands result e }
 {
     match e {
-        Entry::Static(s, key, _, _, _) => Standing {
-            set: s,
+        Entry::Static(set, key, _, _, _) => Standing {
+            set,
             class: Class::Static,
             key,
         },
-        Entry::Source(s, _) => Standing {
-            set: s,
+        Entry::Source(set, _) => Standing {
+            set,
             class: Class::Source,
             key: TextId(ABSENT),
         },
-        Entry::Dynamic(s, _, _) => Standing {
-            set: s,
+        Entry::Dynamic(set, _, _) => Standing {
+            set,
             class: Class::Dynamic,
             key: TextId(ABSENT),
         },
