@@ -23,7 +23,7 @@ use Rattle.std.specs.Ordering.{is_eq}
 use Rattle.std.specs.Cmp.{Equal-is}
 
 -- ---- at the first place that does not stand before the key
-module _ (s : List ℕ) (set : ℕ) (p : Standing) (q : ℕ) (whose : p.set ≡ set) (class : class_number p.class ≡ 0) (place : Place false p s q) (o : InOrder (entries_of s) (order_of s)) where
+module _ (s : List ℕ) (set : ℕ) (p : Standing) (q : ℕ) (whose : p.set.0 ≡ set) (class : class_number p.class ≡ 0) (place : Place false p s q) (o : InOrder (entries_of s) (order_of s)) where
   abbrev key : Text
   key = text_in s p.key.0
 

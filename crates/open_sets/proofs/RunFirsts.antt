@@ -78,7 +78,7 @@ at_least set x h = go (ltb (set_of x) set) refl
     go true p = differ (rw (order_gt set (set_of x) (0 ∷ []) (class_of x ∷ key_of x) (ltb-true (set_of x) set p)) at h)
     go false p = ltb-false (set_of x) set p
 
-module _ (s : List ℕ) (set : ℕ) (p : Standing) (q : ℕ) (whose : p.set ≡ set) (class : class_number p.class ≡ 0) (empty : text_in s p.key.0 ≡ []) (place : Place false p s q)
+module _ (s : List ℕ) (set : ℕ) (p : Standing) (q : ℕ) (whose : p.set.0 ≡ set) (class : class_number p.class ≡ 0) (empty : text_in s p.key.0 ≡ []) (place : Place false p s q)
     (o : InOrder (entries_of s) (order_of s)) where
   abbrev there : ℕ → MergingEntry
   there j = placed (entries_of s) (order_of s) j

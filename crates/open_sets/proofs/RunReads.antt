@@ -30,6 +30,8 @@ use Rattle.open_sets.specs.declared.entry.Entry.{Entry}
 use Rattle.open_sets.specs.declared.standing.Standing.{Standing}
 use Rattle.open_sets.specs.declared.standing.Class.{Class}
 use Rattle.open_sets.specs.declared.standing.Class.TheVariants.{Static, Source, Dynamic}
+use Rattle.open_sets.specs.declared.entry.SetId.{SetId}
+use Rattle.open_sets.specs.contracts.entry.SetIdOrd.TheImpl as set_ord
 use Rattle.open_sets.specs.contracts.standing.ClassOrd.TheImpl as class_ord
 use Rattle.open_sets.specs.Ranks.{standing, InOrder, placed}
 use Rattle.open_sets.specs.Entries.{entry_with}
@@ -65,6 +67,9 @@ class_compared Dynamic Static = refl
 class_compared Dynamic Source = refl
 class_compared Dynamic Dynamic = refl
 
+set_compared : (a b : SetId) → set_ord.ghosts.cmp a b ≡ nat_cmp a.0 b.0
+set_compared a b = refl
+
 -- the set decides, or the class, or what is asked only then: the keys
 decided : {P : Type 0} (a b o r : Ordering) → MatchOrdering (ordering_then a b) (r ≡ Less) P (r ≡ Greater) → (P → r ≡ o) → r ≡ ordering_then a (ordering_then b o)
 decided Less b o r h f = h
@@ -73,10 +78,10 @@ decided Equal Equal o r h f = f h
 decided Equal Greater o r h f = h
 decided Greater b o r h f = h
 
-pub standings_compared : {P : Type 0} (s : List ℕ) (x y : Standing) (a b c r : Ordering) → a ≡ nat_cmp x.set y.set → b ≡ class_ord.ghosts.cmp x.class y.class → c ≡ ordering_then a b
+pub standings_compared : {P : Type 0} (s : List ℕ) (x y : Standing) (a b c r : Ordering) → a ≡ set_ord.ghosts.cmp x.set y.set → b ≡ class_ord.ghosts.cmp x.class y.class → c ≡ ordering_then a b
     → MatchOrdering c (r ≡ Less) P (r ≡ Greater) → (P → r ≡ order (text_in s x.key.0) (text_in s y.key.0)) → r ≡ order (standing_with s x) (standing_with s y)
 unfolding standing_with order
-standings_compared s x y a b c r ea eb ec h f = decided (nat_cmp x.set y.set) (nat_cmp (class_number x.class) (class_number y.class)) (order (text_in s x.key.0) (text_in s y.key.0)) r (rw (ec, ea, eb, class_compared x.class y.class) at h) f
+standings_compared s x y a b c r ea eb ec h f = decided (nat_cmp x.set.0 y.set.0) (nat_cmp (class_number x.class) (class_number y.class)) (order (text_in s x.key.0) (text_in s y.key.0)) r (rw (ec, ea, eb, set_compared x.set y.set, class_compared x.class y.class) at h) f
 
 -- what the comparison with an entry said
 pub compared : (s : List ℕ) (i : ℕ) (e : Entry) (q p : Standing) (r : Ordering) → entry_with s e ≡ entry_at i (state_of s) → Stands q e → r ≡ order (standing_with s q) (standing_with s p) → r ≡ order (standing (get_or (entries_of s) i (source 0 0))) (standing_with s p)

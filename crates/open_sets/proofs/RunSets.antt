@@ -32,7 +32,7 @@ unfolding run_from while_of
 run_end s es run j h = rw (drop_of_length-le run {i = j} h)
 
 -- the set of an entry by where it stands
-set_is : (s : List ℕ) (p : Standing) (e : Entry) → Stands p e → set_of (entry_with s e) ≡ p.set
+set_is : (s : List ℕ) (p : Standing) (e : Entry) → Stands p e → set_of (entry_with s e) ≡ p.set.0
 unfolding standing_with standing
 set_is s p e stands = let z = stands.same s in cc
 
@@ -45,13 +45,13 @@ module _ (s : List ℕ) (j set : ℕ) where
     here : placed (entries_of s) (order_of s) j ≡ entry_with s e
     here = placed_is s j i e at there
 
-    whose : set_of (placed (entries_of s) (order_of s) j) ≡ p.set
+    whose : set_of (placed (entries_of s) (order_of s) j) ≡ p.set.0
     whose = rw here (set_is s p e stands)
 
-    pub next_other : (p.set ≡ set → ⊥) → NextInRun s set j rust.None
+    pub next_other : (p.set.0 ≡ set → ⊥) → NextInRun s set j rust.None
     unfolding NextInRun
-    next_other ne = run_from_lem set (entries_of s) (order_of s) j false (omega (arith, length_order s)) (rw whose (ne_eqb p.set set ne))
+    next_other ne = run_from_lem set (entries_of s) (order_of s) j false (omega (arith, length_order s)) (rw whose (ne_eqb p.set.0 set ne))
 
-    pub next_here : j < entry_limit → p.set ≡ set → NextInRun s set j (rust.Some e)
+    pub next_here : j < entry_limit → p.set.0 ≡ set → NextInRun s set j (rust.Some e)
     unfolding NextInRun
-    next_here few eq = (rw (← here) (run_from_lem set (entries_of s) (order_of s) j true (omega (arith, length_order s)) (rw whose (eq-eqb p.set set eq))), few)
+    next_here few eq = (rw (← here) (run_from_lem set (entries_of s) (order_of s) j true (omega (arith, length_order s)) (rw whose (eq-eqb p.set.0 set eq))), few)

@@ -30,7 +30,7 @@ class_number Source = 1
 class_number Dynamic = 2
 
 unfoldable pub standing_with : List ℕ → Standing → List ℕ
-standing_with s p = p.set ∷ class_number p.class ∷ text_in s p.key.0
+standing_with s p = p.set.0 ∷ class_number p.class ∷ text_in s p.key.0
 
 -- p is where the entry stands, in any store
 pub record Stands (p : Standing) (e : Entry) : Type 0 where

@@ -2,7 +2,7 @@
 use module::{BindingValue, ExprId, NameId, TextId};
 
 // Sets are numbered from 0 as they are opened.
-#[derive(Clone, Copy)]
+#[derive(Clone, Copy, PartialEq, Eq, PartialOrd, Ord)]
 pub struct SetId(pub u32);
 
 #[derive(Clone, Copy)]

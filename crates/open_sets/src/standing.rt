@@ -4,7 +4,7 @@ ghost use Rattle.words.specs.Order.{order};
 ghost use Rattle.layout.specs.Layout.{Long};
 ghost use Rattle.open_sets.specs.Run.{standing_with, Stands};
 
-use crate::entry::Entry;
+use crate::entry::{Entry, SetId};
 use layout::tables::ABSENT;
 use module::TextId;
 use std::cmp::Ordering;
@@ -20,7 +20,7 @@ pub enum Class {
 
 #[derive(Clone, Copy)]
 pub struct Standing {
-    pub set: u32,
+    pub set: SetId,
     pub class: Class,
     pub key: TextId,
 }
@@ -31,18 +31,18 @@ pub fn standing_of(e: Entry) -> Standing
     ensures { Stands result e }
 {
     match e {
-        Entry::Static(s, key, _, _, _) => Standing {
-            set: s.0,
+        Entry::Static(set, key, _, _, _) => Standing {
+            set,
             class: Class::Static,
             key,
         },
-        Entry::Source(s, _) => Standing {
-            set: s.0,
+        Entry::Source(set, _) => Standing {
+            set,
             class: Class::Source,
             key: TextId(ABSENT),
         },
-        Entry::Dynamic(s, _, _) => Standing {
-            set: s.0,
+        Entry::Dynamic(set, _, _) => Standing {
+            set,
             class: Class::Dynamic,
             key: TextId(ABSENT),
         },
