@@ -11,7 +11,7 @@ use module::ScopeId;
 
 // Whether a scope is that of a With.
 #[tactic(auto, using(crate::proofs::WithLaws::own_with))]
-pub fn is_with(store: &[u8], s: ScopeId) -> bool
+fn is_with(store: &[u8], s: ScopeId) -> bool
     requires { Long store.now }
     ensures { result ≡ some_of (if_with (scope_at (scopes_in store.now).scopes s.0).kind) }
 {

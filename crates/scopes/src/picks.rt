@@ -1,5 +1,5 @@
-// Which expressions an item of an expression hands on to a walk: one pass over the items for each of the lists that they
-// stand for.
+// Which expressions an item of an expression hands on to a walk: one pass over the items for each of the lists that
+// they stand for.
 #![tactic(auto, unfolding(crate::specs::Picking::picks_of, crate::specs::Picking::picked, rows::specs::Decoded::item_with, layout::specs::Exprs::children, layout::specs::Exprs::fields, layout::specs::Exprs::statics, layout::specs::Exprs::dynamics, spec::specs::Scopes::field_defaults, spec::specs::Scopes::inherited, spec::specs::Scopes::plain_values, spec::specs::Scopes::keys_and_values, spec::specs::Scopes::one_or_none, module::specs::Ids::expr_of, spec::specs::Scopes::if_inherited, spec::specs::Scopes::if_plain, module::specs::Ids::binding_of,))]
 
 ghost use Rattle.std.specs.Prelude.{◌≡◌, [], ◌∷◌, ℕ};

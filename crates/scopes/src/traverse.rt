@@ -2,6 +2,9 @@
 //
 // A child is walked where its number is below its owner's, which it is in every lowered module; so the
 // walk ends whatever the bytes are. All that walks for an expression carries that expression's number.
+//
+// `store`, `e` and `scope` are no struct: the store is the host's memory, which the walk writes, `e` is what the proof
+// that the walk ends counts down, and `scope` is another one inside what opens one.
 ghost use Rattle.std.specs.Prelude.{[], ◌∷◌, ◌++◌};
 ghost use Rattle.spec.specs.Scopes.{one_or_none, field_defaults, pat_fields, traverse_bindings, traverse_lambda, traverse_expr};
 ghost use Rattle.module.specs.Ids.{expr_of, name_of};
