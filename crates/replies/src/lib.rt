@@ -6,38 +6,41 @@
 ghost use Rattle.std.specs.Prelude.{◌≡◌, ◌≤◌, length};
 ghost use Rattle.spec.specs.Calls.{reply_bytes, refusal};
 ghost use Rattle.refusals.specs.Numbers.{number_of};
-ghost use Rattle.replies.specs.Replies.{Told, ToldMoved, ToldList, ToldAnswer, in_bytes};
+ghost use Rattle.replies.specs.Replies.{Told, ToldMoved, ToldList, ToldAnswer, in_bytes, in_count};
 
 use answer::{Answer, answer_number, answer_value};
 use layout::put_words;
 use refusals::Refusal;
 
-// Five words: a shorter reply is not written. A reply is a `&mut [u8]` that C lends: a type that carried its length would
-// have to say whose bytes it holds, a clause for each `reply_bytes ≤ length reply.old` below.
+// Five words: a shorter reply is not written. No `&mut [u8; 20]`: a host may lend more, and each caller of the functions
+// below would have to cut the first 20 bytes off.
 pub const REPLY_BYTES: usize = 20;
-
-// A refusal: its number, which is returned too, and its place.
-#[tactic(auto, unfolding(crate::specs::Replies::returned, crate::specs::Replies::reply_words, crate::specs::Replies::reply_after))]
-pub fn refuse(reply: &mut [u8], number: u32, place: u32) -> u32
-    requires { reply_bytes ≤ length reply.old }
-    ensures { Told (refusal number place) reply.old result reply.new }
-{
-    put_words(reply, 0, [number, place, 0, 0, 0]);
-    number
-}
 
 // What a call is refused for, and the place.
 #[derive(Clone, Copy, PartialEq, Eq)]
 pub struct Refused(pub Refusal, pub u32);
 
 impl Refused {
-    // A refusal by its name is told by its number.
+    // A refusal by its name is told by its number, which is returned too.
+    #[tactic(auto, unfolding(crate::specs::Replies::returned, crate::specs::Replies::reply_words, crate::specs::Replies::reply_after))]
     pub fn tell(self, reply: &mut [u8]) -> u32
         requires { reply_bytes ≤ length reply.old }
         ensures { Told (refusal (number_of self.0) self.1) reply.old result reply.new }
     {
-        refuse(reply, self.0.number(), self.1)
+        let number = self.0.number();
+        put_words(reply, 0, [number, self.1, 0, 0, 0]);
+        number
     }
+}
+
+// A number has to be below how many there are: 24.
+pub fn below(number: u32, count: u32) -> Result<(), Refused>
+    ensures { result ≡ in_count number count }
+{
+    if count <= number {
+        return Err(Refused(Refusal::NoSuchNumber, number));
+    }
+    Ok(())
 }
 
 // A list of so many numbers has to fit the bytes that are lent for it: 26 or 34, whose place is the length of the list.

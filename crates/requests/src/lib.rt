@@ -7,7 +7,7 @@
 ghost use Rattle.requests.specs.Requests.{Begun, refused_with};
 
 use refusals::Refusal;
-use replies::{REPLY_BYTES, refuse};
+use replies::{REPLY_BYTES, Refused};
 use soundness::condition;
 
 // The refusal that a call comes to whatever it is about, told in a reply that is long enough; else the call may go on.
@@ -21,7 +21,7 @@ pub fn begin(store: &[u8], reply: &mut [u8]) -> Result<(), Refusal>
         Ok(()) => Ok(()),
         Err(unfit) => {
             let why = Refusal::from(unfit);
-            refuse(reply, why.number(), 0);
+            Refused(why, 0).tell(reply);
             Err(why)
         }
     }
