@@ -11,6 +11,8 @@ use replies::{REPLY_BYTES, Refused};
 use soundness::condition;
 
 // The refusal that a call comes to whatever it is about, told in a reply that is long enough; else the call may go on.
+// Each call matches on it: it returns a number, so that `?` is of no use, and one function for all of them would take
+// the rest of a call as a closure over the slices that the call writes.
 pub fn begin(store: &[u8], reply: &mut [u8]) -> Result<(), Refusal>
     ensures { Begun store.now reply.old (refused_with result) reply.new }
 {
