@@ -19,7 +19,7 @@ use answer::Answer;
 use kept::kept_answer;
 use module::{ExprId, NameId};
 use refusals::Refusal;
-use replies::{Refused, room_for, tell_answer, tell_count};
+use replies::{Refused, below, room_for, tell_answer, tell_count};
 use requests::begin;
 use resolve::{list_kept_references, list_withs};
 use rows::{expr_count, name_count};
@@ -42,9 +42,7 @@ fn find_answer(store: &[u8], number: u32, buffer: &mut [u8]) -> Result<(Answer, 
     requires { Long store.now }
     ensures { FindsAnswer number store.now buffer.old result buffer.new }
 {
-    if expr_count(store) <= number {
-        return Err(Refused(Refusal::NoSuchNumber, number));
-    }
+    below(number, expr_count(store))?;
     let Some(a) = kept_answer(store, ExprId(number)) else {
         return Err(Refused(Refusal::NotAReference, number));
     };
@@ -81,9 +79,7 @@ fn find_references(store: &[u8], number: u32, buffer: &mut [u8]) -> Result<u32, 
     requires { Long store.now }
     ensures { FindsReferences number store.now buffer.old result buffer.new }
 {
-    if name_count(store) <= number {
-        return Err(Refused(Refusal::NoSuchNumber, number));
-    }
+    below(number, name_count(store))?;
     let bytes = buffer.len();
     let use_count = list_kept_references(store, NameId(number), buffer);
     room_for(use_count, bytes, Refusal::BufferShort)

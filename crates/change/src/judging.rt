@@ -8,7 +8,7 @@ use crate::new_text::judge_text;
 use module::TextId;
 use moving::{Place, count_moved};
 use refusals::Refusal;
-use replies::{Refused, room_for};
+use replies::{Refused, below, room_for};
 use rows::{expr_count, name_count, name_text, reference_text};
 
 // The text that stands there: 24 where there is no such number, 25 where it is no Reference.
@@ -18,15 +18,11 @@ fn held_text(store: &[u8], place: Place) -> Result<TextId, Refused>
 {
     match place {
         Place::Name(x) => {
-            if name_count(store) <= x.0 {
-                return Err(Refused(Refusal::NoSuchNumber, x.0));
-            }
+            below(x.0, name_count(store))?;
             Ok(name_text(store, x))
         }
         Place::Reference(e) => {
-            if expr_count(store) <= e.0 {
-                return Err(Refused(Refusal::NoSuchNumber, e.0));
-            }
+            below(e.0, expr_count(store))?;
             reference_text(store, e).ok_or(Refused(Refusal::NotAReference, e.0))
         }
     }

@@ -5,15 +5,14 @@ ghost use Rattle.layout.specs.Keeps.{kept_in};
 ghost use Rattle.change.specs.Judged.{JudgesText};
 
 use kept::spent;
-use layout::tables::ROOM_LIMIT;
 use module::TextId;
+use put_text::ROOM;
 use refusals::Refusal;
 use replies::Refused;
 use texts::text_is;
 
-const TEXT_LIMIT: usize = 255;
-
-const ROOM: usize = ROOM_LIMIT as usize;
+// No new text is longer.
+const NEW_TEXT_LIMIT: u32 = 255;
 
 // Whether what is left of the change room is too little for a text.
 fn lacks_room(store: &[u8], text: &[u8]) -> bool
@@ -29,8 +28,8 @@ pub fn judge_text(store: &[u8], held: TextId, text: &[u8]) -> Result<bool, Refus
     requires { Long store.now }
     ensures { JudgesText store.now held.0 text.now result }
 {
-    if TEXT_LIMIT < text.len() {
-        return Err(Refused(Refusal::TextTooLong, 255));
+    if (NEW_TEXT_LIMIT as usize) < text.len() {
+        return Err(Refused(Refusal::TextTooLong, NEW_TEXT_LIMIT));
     }
     if text_is(store, held, text) {
         return Ok(false);

@@ -4,7 +4,7 @@ use Rattle.std.specs.Prelude as rust
 use mathlib.Core.Path.{◌≡◌, refl, sym, ap, ◌∙◌}
 use mathlib.Core.Bool.{or-true}
 use mathlib.Core.List.{List, []}
-use Prim.Native.Nat.{ℕ, ◌%◌, ◌≤◌, ◌<◌}
+use Prim.Native.Nat.{ℕ, ◌≤◌, ◌<◌}
 use native.Mathlib.Omega.{arith}
 use lib.ListN.{length}
 use lib.Dec.{ltb}
@@ -31,6 +31,15 @@ same_error e = cc
 abbrev pub Promise : List ℕ → List ℕ → List ℕ → ℕ → List ℕ → List ℕ → Type 0
 Promise sheet s p r t q =
     (r ≡ returned (load_outcome (judged_in sheet s p))) × ((q ≡ reply_after (load_outcome (judged_in sheet s p)) p) × Leaves (judged_in sheet s p) s t)
+
+-- a place fits the four bytes of a word
+pub place_fits : (sheet : List ℕ) (a : rust.Result (ℕ × Position) SheetRefused) → numbered a ≡ answer sheet (judge sheet) → (x : SheetRefused) → a ≡ rust.Err x → x.place < 4294967296
+unfolding answer
+place_fits sheet a e x h = by_judged (judge sheet) refl (sym (ap numbered h) ∙ e)
+  where
+    by_judged : (j : Judged) → judge sheet ≡ j → rust.Err (number_of x.why, x.place) ≡ answer sheet j → x.place < 4294967296
+    by_judged (Judged.accepted ns) i k = let z : ◌≡◌ {A = ℕ} 0 1 = cc in absurd (omega arith)
+    by_judged (Judged.refused n v) i k = omega (arith, ap (λ (k : ℕ × ℕ). k.1) (same_error k), refused_place sheet n v i)
 
 -- what becomes of the sheet
 module _ (sheet s p : List ℕ) where
@@ -60,7 +69,7 @@ module _ (sheet s p : List ℕ) where
 
   -- 1 to 7 or 31 to 33, or none
   module _ (long : Long s) (room : reply_bytes ≤ length p) (a : rust.Result (ℕ × Position) SheetRefused) (e : numbered a ≡ answer sheet (judge sheet)) where
-    pub sheet_refused : (x : SheetRefused) (number : ℕ) {r : ℕ} {q : List ℕ} → a ≡ rust.Err x → number ≡ number_of x.why → Told (refusal number (x.place % 4294967296)) p r q → Promise sheet s p r s q
+    pub sheet_refused : (x : SheetRefused) (number : ℕ) {r : ℕ} {q : List ℕ} → a ≡ rust.Err x → number ≡ number_of x.why → Told (refusal number x.place) p r q → Promise sheet s p r s q
     unfolding answer load_outcome Leaves
     sheet_refused x number {r} {q} h same told = by_judged (judge sheet) refl (sym (ap numbered h) ∙ e)
       where
@@ -69,8 +78,7 @@ module _ (sheet s p : List ℕ) where
         by_judged (Judged.refused n v) i k =
             let number_is : number ≡ n = same ∙ ap (λ (k : ℕ × ℕ). k.0) (same_error k) in
             let place_is : x.place ≡ v = ap (λ (k : ℕ × ℕ). k.1) (same_error k) in
-            let whole : x.place % 4294967296 ≡ v = omega (arith, place_is, refused_place sheet n v i) in
-            promised s (Judged.refused n v) (by_sheet long room ∙ i) (rw (number_is, whole) at told) refl
+            promised s (Judged.refused n v) (by_sheet long room ∙ i) (rw (number_is, place_is) at told) refl
 
     pub sheet_accepted : (count : ℕ) (first : Position) {r : ℕ} {t q : List ℕ} → a ≡ rust.Ok (count, first) → Fills sheet s t → ToldMoved 0 p r q → Promise sheet s p r t q
     unfolding answer load_outcome Leaves

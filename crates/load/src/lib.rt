@@ -12,7 +12,7 @@ use layout::tables::STORE_BYTES;
 use lower::lower;
 use nameres::keep_module;
 use refusals::Refusal;
-use replies::{REPLY_BYTES, Refused, refuse, tell_count};
+use replies::{REPLY_BYTES, Refused, tell_count};
 use store::clear;
 
 // The nodes of an accepted sheet, then what is made of them. All counts are 0 first, so that nothing of an earlier load
@@ -42,10 +42,7 @@ pub fn load(sheet: &[u8], store: &mut [u8], reply: &mut [u8]) -> u32
         return Refused(Refusal::StoreShort, 0).tell(reply);
     }
     match tree::judge(sheet) {
-        Err(refused) => {
-            let place = (refused.place % 4294967296) as u32;
-            refuse(reply, refused.why.number(), place)
-        }
+        Err(refused) => Refused(refused.why, refused.place as u32).tell(reply),
         Ok(_) => {
             fill(sheet, store);
             tell_count(reply, 0)

@@ -1,7 +1,7 @@
 -- Answers held against each other. Assumes nothing.
 use Rattle.std.specs.Prelude.{if◌then◌else◌}
 use mathlib.Core.Path.{◌≡◌, refl, sym, ap, ◌∙◌}
-use mathlib.Core.Bool.{and-true}
+use mathlib.Core.Bool.{Bool, and-true}
 use mathlib.Core.List.{List}
 use mathlib.Core.Option.{none, some}
 use Prim.Native.Nat.{ℕ}
@@ -43,6 +43,12 @@ same_here a b = record { says = go a b }
     go Withs (Definition y) es = refl
     go Withs (Builtin j) es = refl
     go Withs Withs es = sym (equalb_refl es)
+
+-- ---- where one is kept
+module _ (s : List ℕ) (e : ℕ) (a : Answer) (k : rust.Option Answer) (kept : maybe_with k (withs_at (scopes_in s) e) ≡ kept_answer (kept_in s) e) (was : Answer) (there : k ≡ rust.Some was) where
+  pub kept_one : (b : Bool) → b ≡ ghosts.eq was a → OtherThan e a s (if b then rust.None else rust.Some a)
+  unfolding maybe_with
+  kept_one b same = record { is = rw (sym kept ∙ ap (λ (o : rust.Option Answer). maybe_with o (withs_at (scopes_in s) e)) there, ← (same_here was a).says (withs_at (scopes_in s) e), ← same) refl }
 
 -- ---- where none is kept
 pub kept_none : (s : List ℕ) (e : ℕ) (a : Answer) (k : rust.Option Answer) → maybe_with k (withs_at (scopes_in s) e) ≡ kept_answer (kept_in s) e → k ≡ rust.None → OtherThan e a s (rust.Some a)

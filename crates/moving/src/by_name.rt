@@ -17,7 +17,8 @@ use resolve::resolve_renamed;
 use rows::{expr_count, reference_text};
 use words::put32;
 
-// What becomes of one answer, as if the name had the new text.
+// What becomes of one answer, as if the name had the new text. `About store.now x` stands in each contract, as `Long`
+// does: a type that carried it would have to hold the store.
 fn moved_by_name(store: &[u8], e: ExprId, x: Named, new: &[u8]) -> Option<Answer>
     requires { Long store.now × About store.now x }
     ensures { MovesTo (at_name x.name.0) new.now e.0 store.now result }
@@ -46,7 +47,8 @@ fn count_one(store: &[u8], e: ExprId, x: Named, new: &[u8]) -> u32
     }
 }
 
-// How many answers it moves; nothing is written.
+// How many answers it moves; nothing is written. No `filter(..).count()`: it gives a usize, and that the number fits the
+// u32 of a reply would be one more thing to prove.
 pub(crate) fn count_moved_by_name(store: &[u8], x: NameId, new: &[u8]) -> u32
     requires { Long store.now }
     ensures { result ≡ length (moved_by (kept_in store.now) (at_name x.0) new.now) }

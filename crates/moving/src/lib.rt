@@ -10,6 +10,5 @@ mod by_reference;
 mod moved;
 mod named;
 mod place;
-mod same;
 
 pub use place::{Place, count_moved, move_answers_of};

@@ -13,7 +13,8 @@ use moving::{Place, move_answers_of};
 use store::{set_name_text, set_reference_text};
 use texts::add_text;
 
-const ROOM: usize = ROOM_LIMIT as usize;
+// The change room of a store, as a number of bytes.
+pub const ROOM: usize = ROOM_LIMIT as usize;
 
 // So much more of the change room is spent; nothing where that is more than there is in all.
 fn spend(store: &mut [u8], n: usize)

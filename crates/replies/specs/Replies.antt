@@ -9,6 +9,7 @@ use Rattle.answer.specs.declared.answer.Answer.{Answer}
 use Rattle.answer.specs.Answers.{answer_with}
 use Rattle.answer.specs.Told.{number_of, value_of}
 use Rattle.refusals.specs.declared.refusal.Refusal.{Refusal}
+use Rattle.refusals.specs.declared.refusal.Refusal.TheVariants.{NoSuchNumber}
 use Rattle.replies.specs.declared.Refused.{Refused}
 
 -- "0 for none"
@@ -43,6 +44,10 @@ buffer_after o buffer = set_all buffer 0 (list_of o)
 -- so many numbers, where they fit so many bytes; else the call is refused, and the place is how many there are
 abbrev pub in_bytes : ℕ → ℕ → Refusal → Result ℕ Refused
 in_bytes n bytes why = if ltb bytes (4 * n) then Err (record { 0 = why; 1 = n }) else Ok n
+
+-- a number below how many there are; else the call is refused with 24, and the place is the number
+abbrev pub in_count : ℕ → ℕ → Result (Unit {0}) Refused
+in_count number count = if ltb number count then Ok tt else Err (record { 0 = NoSuchNumber; 1 = number })
 
 -- what a load comes to
 unfoldable pub load_outcome : Judged → Outcome

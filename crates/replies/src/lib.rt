@@ -6,17 +6,18 @@
 ghost use Rattle.std.specs.Prelude.{◌≡◌, ◌≤◌, length};
 ghost use Rattle.spec.specs.Calls.{reply_bytes, refusal};
 ghost use Rattle.refusals.specs.Numbers.{number_of};
-ghost use Rattle.replies.specs.Replies.{Told, ToldMoved, ToldList, ToldAnswer, in_bytes};
+ghost use Rattle.replies.specs.Replies.{Told, ToldMoved, ToldList, ToldAnswer, in_bytes, in_count};
 
 use answer::{Answer, answer_number, answer_value};
 use layout::put_words;
 use refusals::Refusal;
 
-// Five words: a shorter reply is not written. A reply is a `&mut [u8]` that C lends: a type that carried its length
-// would have to say whose bytes it holds, a clause for each `reply_bytes ≤ length reply.old` below.
+// Five words: a shorter reply is not written. No `&mut [u8; 20]`: a host may lend more, and each caller of the functions
+// below would have to cut the first 20 bytes off.
 pub const REPLY_BYTES: usize = 20;
 
-// A refusal: its number, which is returned too, and its place.
+// A refusal: its number, which is returned too, and its place. It promises something for every number; who has a refusal
+// by its name tells that (`Refused::tell`).
 #[tactic(auto, unfolding(crate::specs::Replies::returned, crate::specs::Replies::reply_words, crate::specs::Replies::reply_after))]
 pub fn refuse(reply: &mut [u8], number: u32, place: u32) -> u32
     requires { reply_bytes ≤ length reply.old }
@@ -38,6 +39,16 @@ impl Refused {
     {
         refuse(reply, self.0.number(), self.1)
     }
+}
+
+// A number has to be below how many there are: 24.
+pub fn below(number: u32, count: u32) -> Result<(), Refused>
+    ensures { result ≡ in_count number count }
+{
+    if count <= number {
+        return Err(Refused(Refusal::NoSuchNumber, number));
+    }
+    Ok(())
 }
 
 // A list of so many numbers has to fit the bytes that are lent for it: 26 or 34, whose place is the length of the list.

@@ -7,10 +7,12 @@
 ghost use Rattle.requests.specs.Requests.{Begun, refused_with};
 
 use refusals::Refusal;
-use replies::{REPLY_BYTES, refuse};
+use replies::{REPLY_BYTES, Refused};
 use soundness::condition;
 
 // The refusal that a call comes to whatever it is about, told in a reply that is long enough; else the call may go on.
+// Each call matches on it: it returns a number, so that `?` is of no use, and one function for all of them would take
+// the rest of a call as a closure over the slices that the call writes.
 pub fn begin(store: &[u8], reply: &mut [u8]) -> Result<(), Refusal>
     ensures { Begun store.now reply.old (refused_with result) reply.new }
 {
@@ -21,7 +23,7 @@ pub fn begin(store: &[u8], reply: &mut [u8]) -> Result<(), Refusal>
         Ok(()) => Ok(()),
         Err(unfit) => {
             let why = Refusal::from(unfit);
-            refuse(reply, why.number(), 0);
+            Refused(why, 0).tell(reply);
             Err(why)
         }
     }
