@@ -61,7 +61,8 @@ pub fn defined_in(store: &[u8], s: ScopeId, sought: &[u8], x: NameId, text: &[u8
     ensures { name_of result ≡ defined_in (text_of_name (set_name x.0 text.now (module_in store.now))) sought.now (scope_at (scopes_in store.now).scopes s.0).kind }
 {
     let n = entered_count(store, s);
-    // Tried as `(0..n).rev().find_map(..)`: the proof, which goes by the names that are left, didn't close.
+    // Tried as `(0..n).rev().find_map(..)`: what the search has does not close the proof, which
+    // goes by the names that are left.
     for i in (0..n).rev() {
         if let Some(y) = entered_as(store, s, i, sought, x, text) {
             return Some(y);

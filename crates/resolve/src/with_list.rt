@@ -20,7 +20,8 @@ fn write_withs(store: &[u8], s: ScopeId, buffer: &mut [u8], n: usize)
     ensures { buffer.new ≡ set_all buffer.old 0 (withs_of (scopes_in store.now).scopes (chain (scopes_in store.now).scopes s.0)) }
 {
     let mut written = 0;
-    // Tried with `filter_map(..).enumerate()`: the adapters bring promises of their own, and the proof did not close.
+    // Tried with `filter_map(..).enumerate()`: the adapters bring promises of their own, which the search does not
+    // close.
     for i in ScopeChain::new(store, s) {
         if let Some(e) = scope_with(store, i) {
             put32(buffer, 4 * written, e.0);
