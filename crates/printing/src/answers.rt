@@ -1,5 +1,5 @@
 // A refusal, an answer, and all that a store tells of its module.
-ghost use Rattle.std.specs.Prelude.{◌≡◌, ◌+◌, ◌≤◌};
+ghost use Rattle.std.specs.Prelude.{◌≡◌, ◌+◌, ◌*◌, ◌≤◌, take};
 ghost use Rattle.words.specs.Words.{word};
 
 use crate::lines::{print_line, print_list};
@@ -20,13 +20,13 @@ pub fn print_answer<W: Write>(
     out: &mut W,
     answer: u32,
     value: u32,
-    withs: &[u8; 16384],
-    with_count: u32,
+    withs: &[u8],
 ) -> io::Result<()> {
     print_line(out, b"answer=", answer)?;
+    // By the number of a reply, as any host reads it: 1 is a definition, 2 a builtin.
     match answer {
         1 | 2 => print_line(out, b"to=", value),
-        _ => print_list(out, b"to=", withs, with_count),
+        _ => print_list(out, b"to=", withs),
     }
 }
 
@@ -36,6 +36,14 @@ pub fn reply_word(reply: &[u8; 32], at: usize) -> u32
     ensures { result ≡ word reply.now at }
 {
     get32(reply, at)
+}
+
+// The list that a call left in a buffer: as many numbers as its reply says, and none past the buffer.
+pub fn told_list<'a>(buffer: &'a [u8; 16384], reply: &[u8; 32]) -> &'a [u8]
+    ensures { result.now ≡ take (4 * word reply.now 16) buffer.now }
+{
+    let bytes = 4 * reply_word(reply, 16) as usize;
+    &buffer[..bytes.min(16384)]
 }
 
 // An expression that is no Reference is refused by its asking, and nothing is printed of it.
@@ -54,8 +62,7 @@ fn print_reference<W: Write>(
         out,
         reply_word(&reply, 8),
         reply_word(&reply, 12),
-        buffer,
-        reply_word(&reply, 16),
+        told_list(buffer, &reply),
     )
 }
 

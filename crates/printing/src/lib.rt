@@ -9,5 +9,5 @@
 mod answers;
 mod lines;
 
-pub use answers::{print_answer, print_load, print_module, print_refusal, reply_word};
+pub use answers::{print_answer, print_load, print_module, print_refusal, reply_word, told_list};
 pub use lines::{print_line, print_list};

@@ -1,4 +1,6 @@
 // A line: its key, and a number or a list of numbers with commas between them.
+ghost use Rattle.std.specs.Prelude.{◌+◌, ◌*◌, ◌≤◌, length};
+
 use std::io::{self, Write};
 use words::get32;
 
@@ -7,11 +9,9 @@ pub fn print_line<W: Write>(out: &mut W, key: &[u8], value: u32) -> io::Result<(
     writeln!(out, "{value}")
 }
 
-// Nothing is printed of a number that the list does not have.
-fn print_item<W: Write>(out: &mut W, list: &[u8], i: usize) -> io::Result<()> {
-    if list.len() / 4 <= i {
-        return Ok(());
-    }
+fn print_item<W: Write>(out: &mut W, list: &[u8], i: usize) -> io::Result<()>
+    requires { 4 * i + 4 ≤ length list.now }
+{
     if 0 < i {
         out.write_all(b",")?;
     }
@@ -19,11 +19,11 @@ fn print_item<W: Write>(out: &mut W, list: &[u8], i: usize) -> io::Result<()> {
     write!(out, "{value}")
 }
 
-// The first numbers of a list, each of four bytes, as a call leaves it in a buffer.
-pub fn print_list<W: Write>(out: &mut W, key: &[u8], list: &[u8], count: u32) -> io::Result<()> {
+// The numbers of a list, each of four bytes.
+pub fn print_list<W: Write>(out: &mut W, key: &[u8], list: &[u8]) -> io::Result<()> {
     out.write_all(key)?;
-    for i in 0..count {
-        print_item(out, list, i as usize)?;
+    for i in 0..list.len() / 4 {
+        print_item(out, list, i)?;
     }
     out.write_all(b"\n")
 }

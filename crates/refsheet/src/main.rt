@@ -6,6 +6,7 @@
 use layout::tables::STORE_BYTES;
 use load::load;
 use printing::{print_load, print_refusal};
+use refusals::Refusal;
 use std::io::{self, Read, Write};
 
 fn show<W: Write>(out: &mut W, sheet: &[u8], store: &mut [u8; STORE_BYTES]) -> io::Result<()> {
@@ -21,7 +22,7 @@ fn main(rt: HostRuntime) -> io::Result<()> {
     let mut text = [0u8; 65537];
     let n = io::copy(&mut rt.reader().take(65537), &mut &mut text[..])?;
     if 65536 < n {
-        return print_refusal(&mut out, 1, 0);
+        return print_refusal(&mut out, Refusal::SheetTooLong.number(), 0);
     }
     show(&mut out, &text[..n as usize], &mut store)
 }

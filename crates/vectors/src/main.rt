@@ -16,7 +16,9 @@ use ask::{ask_name, ask_reference};
 use change::{change_name, change_reference};
 use layout::tables::STORE_BYTES;
 use load::load;
-use printing::{print_answer, print_list, print_load, print_module, print_refusal, reply_word};
+use printing::{
+    print_answer, print_list, print_load, print_module, print_refusal, reply_word, told_list,
+};
 use reader::after_first_line;
 use sheet::{Fault, Position};
 use std::io::{self, Read, Write};
@@ -161,14 +163,14 @@ fn print_told<W: Write>(
     buffer: &[u8; 16384],
     reply: &[u8; 32],
 ) -> io::Result<()> {
-    let count = reply_word(reply, 16);
+    let list = told_list(buffer, reply);
     match call {
         Call::AskReference => {
             let answer = reply_word(reply, 8);
-            print_answer(out, answer, reply_word(reply, 12), buffer, count)
+            print_answer(out, answer, reply_word(reply, 12), list)
         }
-        Call::AskName => print_list(out, b"list=", buffer, count),
-        Call::ChangeReference | Call::ChangeName => print_list(out, b"moved=", buffer, count),
+        Call::AskName => print_list(out, b"list=", list),
+        Call::ChangeReference | Call::ChangeName => print_list(out, b"moved=", list),
     }
 }
 
@@ -223,6 +225,7 @@ fn run_calls<'a, W: Write>(
     Ok(rest)
 }
 
+// refsheet has these lines too: printing, which both use, writes to nothing that is lent.
 fn load_and_show<W: Write>(
     out: &mut W,
     sheet: &[u8],
