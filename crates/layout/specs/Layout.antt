@@ -219,8 +219,9 @@ texts_at = kids_at + 4 * kid_limit
 abbrev pub store_bytes : ℕ
 store_bytes = texts_at + text_limit
 
--- a store that is long enough. Contracts ask for it, and no type carries it: a type for writers would have to say
--- whose bytes it holds, a clause for a clause, and one for readers alone would have to be made anew at each of the
--- writers' calls of them, which are more than the clauses that it would take away (docs/DESIGN-PASS.md, point 5)
+-- a store that is long enough. The contracts of readers and writers ask for it. Tried as the invariant of a type: for
+-- writers it would have to say whose bytes it holds, a clause for a clause; one for readers alone would be made anew
+-- at each call of them in a writer, `expr_count(&Store::of(store))`, and there are about as many as the clauses that it
+-- takes away (docs/DESIGN-PASS.md, point 5). An array of this length would ask more of callers: a store may be longer.
 abbrev pub Long : List ℕ → Type 0
 Long s = store_bytes ≤ length s

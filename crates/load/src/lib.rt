@@ -16,7 +16,8 @@ use replies::{REPLY_BYTES, Refused, tell_count};
 use store::clear;
 
 // The nodes of an accepted sheet, then what is made of them. All counts are 0 first, so that nothing of an earlier load
-// is left. The nodes of such a sheet always find room, so that bring_nodes need not be asked whether they did.
+// is left. The nodes of such a sheet always find room, so that bring_nodes need not be asked whether they did. It reads
+// how many there are again: to be handed the number, it would have to ask that it is the sheet's.
 fn fill(sheet: &[u8], store: &mut [u8])
     requires { Long store.old }
     ensures { Fills sheet.now store.old store.new }

@@ -18,7 +18,8 @@ pub fn joined(high: u32, low: u32) -> u64
     (u64::from(high) << 32) + u64::from(low)
 }
 
-// Bits above those of infinity are no float that a sheet can have.
+// Bits above those of infinity are no float that a sheet can have. The literals of a node (keys/literals.rt) are held
+// below the same bounds; there a number above is no literal, here it is a Missing.
 #[tactic(auto, using(crate::proofs::ReadLaws::float_unread))]
 fn float_expr(row: Row) -> Expr
     requires { row.sort ≡ 4 }
