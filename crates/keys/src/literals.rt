@@ -15,8 +15,8 @@ use texts::text_bytes;
 
 const TOO_LARGE: u64 = 9223372036854775808;
 
-// One digit more, in the base. What is too large stays so with every digit more. (The numbers of a sheet's lines have one
-// base and another bound, crates/sheet/src/decimals.rt.)
+// One digit more, in the base. What is too large stays so with every digit more. (The numbers of a sheet's lines have
+// one base and another bound, crates/sheet/src/decimals.rt.)
 fn with_digit(base: u64, value: u64, digit: u8) -> u64
     ensures { result ≡ capped (base * value + digit) }
 {

@@ -99,7 +99,8 @@ fn fits(text: &[u8], rule: TextRule, flag: u32) -> bool
     }
 }
 
-// Writes the bytes that a text stands for into d from `at` on: a slice and a place, as in `splice`, by which it promises.
+// Writes the bytes that a text stands for into d from `at` on: a slice and a place, as in `splice`, by which it
+// promises.
 pub fn decode_text(text: &[u8], d: &mut [u8], at: usize)
     requires { at + length text.now / 2 ≤ length d.old }
     ensures { d.new ≡ splice d.old at (decoded text.now) }
