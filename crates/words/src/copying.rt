@@ -2,9 +2,19 @@
 ghost use Rattle.std.specs.Prelude.{◌≡◌, ◌+◌, ◌≤◌, length};
 ghost use Rattle.words.specs.Runs.{run, splice};
 
-// Writes the bytes of t over those of s from `at` on. It stays a function so that its equation is in the
-// definitions' words (`splice`) at each of its calls.
+// Writes the bytes of t over those of s from `at` on. A loop: the library's copy of a slice of any length calls
+// `memmove`, which a host would have to bring (docs/STORE.md, "The calls").
 pub fn copy_run(s: &mut [u8], at: usize, t: &[u8])
+    requires { at + length t.now ≤ length s.old }
+    ensures { s.new ≡ splice s.old at t.now }
+{
+    for i in 0..t.len() {
+        s[at + i] = t[i];
+    }
+}
+
+// The same for a few bytes: where their number is known, the library's copy is one store.
+pub(crate) fn put_bytes(s: &mut [u8], at: usize, t: &[u8])
     requires { at + length t.now ≤ length s.old }
     ensures { s.new ≡ splice s.old at t.now }
 {

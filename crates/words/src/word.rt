@@ -2,7 +2,7 @@
 ghost use Rattle.std.specs.Prelude.{◌≡◌, ◌+◌, ◌≤◌, length};
 ghost use Rattle.words.specs.Words.{word, set_word};
 
-use crate::copying::copy_run;
+use crate::copying::put_bytes;
 
 // The word whose first byte is at `at`.
 pub fn get32(s: &[u8], at: usize) -> u32
@@ -17,5 +17,5 @@ pub fn put32(s: &mut [u8], at: usize, v: u32)
     requires { at + 4 ≤ length s.old }
     ensures { s.new ≡ set_word s.old at v }
 {
-    copy_run(s, at, &v.to_le_bytes());
+    put_bytes(s, at, &v.to_le_bytes());
 }

@@ -1,13 +1,13 @@
 -- `words::copying::copy_run` meets its contract.
-use Rattle.words.proofs.RunLaws.{splice_is}
-use lib.ListN.{length}
-use lib.Seq.{take-length}
-use Rattle.std.proofs.lemmas.Slice.{put_mid-paste}
-use mathlib.Core.Path.{refl, sym, ◌∙◌}
+use Rattle.words.proofs.CopyLoops.{begun_none, begun_more, begun_done}
 use native.Mathlib.Omega.{arith}
 use Rattle.words.proofs.copying.copy_run.Goals as goal
 
+pub loop-i-init : goal.loop-i-init
+loop-i-init c = begun_none _ _ _
+
+pub loop-i-preserved : goal.loop-i-preserved
+loop-i-preserved c = begun_more _ _ _ _ _ c.loop-i.invariant c.loop-i-test.true
+
 pub returns : goal.returns
-returns c =
-    put_mid-paste _ _ _ _ _ (length c.args.t.now) c.copy_from_slice.ensures.after (omega arith) refl
-    ∙ rw (take-length c.args.t.now) (sym (splice_is _ _ _ _ refl c.requires))
+returns c = begun_done _ _ _ _ _ c.loop-i.invariant (omega (arith, c.loop-i.auto.i-end, c.loop-i-test.false))

@@ -5,4 +5,4 @@ use Rattle.words.proofs.word.put32.Goals as goal
 
 pub returns : goal.returns
 unfolding set_word
-returns c = rw (← bytes_of_four c.args.v, ← c.to_le_bytes.ensures) c.copy_run.ensures
+returns c = rw (← bytes_of_four c.args.v, ← c.to_le_bytes.ensures) c.put_bytes.ensures
