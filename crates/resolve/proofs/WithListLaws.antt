@@ -1,18 +1,20 @@
 -- Writing the Withs of a chain into a buffer. Assumes nothing.
 use mathlib.Core.Path.{◌≡◌, refl, sym, ap, ◌∙◌}
 use mathlib.Core.List.{List, [], ◌∷◌}
+use mathlib.Core.Bool.{Bool}
+use mir.Val.{bool_byte}
 use mathlib.Core.Option.{none, some}
 use Prim.Native.Nat.{ℕ, ◌+◌, ◌*◌, ◌≤◌, ◌<◌}
 use native.Mathlib.Omega.{arith}
-use lib.ListN.{length}
+use lib.ListN.{length, length-append}
 use Rattle.words.specs.Words.{set_word}
 use Rattle.words.proofs.WordLaws.{length_set_word}
-use Rattle.spec.specs.Scopes.{Scope, Scopes}
-use Rattle.spec.specs.Answer.{scope_at, chain, withs_of, scope_of_expr}
+use Rattle.spec.specs.Scopes.{Scope, Scopes, ScopeKind, definitions, with_expr}
+use Rattle.spec.specs.Answer.{scope_at, chain, if_with, withs_of, scope_of_expr}
 use Rattle.layout.specs.Rows.{set_all}
 use Rattle.kept.specs.Walks.{with_of}
 use Rattle.kept.specs.Answers.{withs_in, withs_at}
-use Rattle.resolve.specs.Withs.{Lists}
+use Rattle.resolve.specs.Withs.{Lists, some_of}
 use Rattle.resolve.proofs.WithLaws.{with_is, with_none}
 
 -- ---- one scope
@@ -24,6 +26,35 @@ module _ (scopes : List Scope) {ss rest : List ℕ} {i : ℕ} (comes : ss ≡ i 
   pub with_past : none ≡ with_of (scope_at scopes i).kind → withs_of scopes ss ≡ withs_of scopes rest
   unfolding withs_of
   with_past h = rw (comes, with_none (scope_at scopes i).kind h) refl
+
+-- ---- counted one after the other
+-- Of all the numbers es are still to be counted, after n.
+pub record Counting (all es : List ℕ) (n : ℕ) : Type 0 where
+  pub count : n + length es ≡ length all
+
+pub counting_none : {all es : List ℕ} → es ≡ all → Counting all es 0
+counting_none e = let m = ap length e in record { count = omega (arith, m) }
+
+own_count : (k : ScopeKind) (b : Bool) → b ≡ some_of (if_with k) → length (if_with k) ≡ bool_byte b
+unfolding some_of if_with
+own_count (definitions xs) b h = rw h refl
+own_count (with_expr e) b h = rw h refl
+
+module _ (scopes : List Scope) {all ss : List ℕ} {n : ℕ} (w : Counting all (withs_of scopes ss) n) where
+  module _ {i : ℕ} {rest : List ℕ} (comes : ss ≡ i ∷ rest) (b : Bool) (is : b ≡ some_of (if_with (scope_at scopes i).kind)) where
+    counting_next : length (withs_of scopes ss) ≡ bool_byte b + length (withs_of scopes rest)
+    unfolding withs_of
+    counting_next = rw comes (rw (← own_count (scope_at scopes i).kind b is) (length-append (if_with (scope_at scopes i).kind) (withs_of scopes rest)))
+
+    pub counting_low : n + bool_byte b ≤ length all
+    counting_low = omega (arith, w.count, counting_next)
+
+    pub counting_on : Counting all (withs_of scopes rest) (n + bool_byte b)
+    counting_on = record { count = omega (arith, w.count, counting_next) }
+
+  pub counting_done : ss ≡ [] → n ≡ length all
+  unfolding withs_of
+  counting_done q = let m : length (withs_of scopes ss) ≡ 0 = rw q refl in omega (arith, w.count, m)
 
 -- ---- one number after the other
 -- Of all the numbers es are still to be written, from place k on.

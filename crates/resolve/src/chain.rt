@@ -8,8 +8,10 @@ use module::ScopeId;
 #[derive(Clone, Copy)]
 pub struct ScopeChain<'a> {
     store: &'a [u8],
-    next: Option<ScopeId>,
-    // How many more may follow the next one.
+    // The scope that came last; before any came, the first one.
+    at: ScopeId,
+    begun: bool,
+    // How many more may follow it.
     left: u32,
     ghost long: { Long store.now },
 }
@@ -22,14 +24,15 @@ impl<'a> ScopeChain<'a> {
 
     // From s on. A parent has a lower number in a sound store: so no more are followed than the number of s, and every
     // walk ends, also where parents go round.
-    #[tactic(auto, unfolding(crate::specs::Chain::scopes_left, spec::specs::Answer::chain, module::specs::Ids::scope_of))]
+    #[tactic(auto, unfolding(crate::specs::Chain::scopes_left, crate::specs::Chain::scopes_around, spec::specs::Answer::chain, spec::specs::Answer::chain_to))]
     pub fn new(store: &'a [u8], s: ScopeId) -> ScopeChain<'a>
         requires { Long store.now }
         ensures { scopes_left result ≡ chain (scopes_in store.now).scopes s.0 }
     {
         ScopeChain {
             store,
-            next: Some(s),
+            at: s,
+            begun: false,
             left: s.0,
         }
     }
@@ -45,14 +48,17 @@ impl<'a> Iterator for ScopeChain<'a> {
 
     ghost remaining = { item_count scopes_left };
 
-    #[tactic(auto, using(crate::proofs::ChainLaws::chain_none), unfolding(crate::specs::Chain::scopes_left, spec::specs::Answer::chain_to, module::specs::Ids::scope_of))]
+    #[tactic(auto, using(crate::proofs::ChainLaws::chain_none), unfolding(crate::specs::Chain::scopes_left, crate::specs::Chain::scopes_around, spec::specs::Answer::chain_to, module::specs::Ids::scope_of))]
     fn next(&mut self) -> Option<ScopeId> {
-        let s = self.next?;
-        self.next = None;
-        if self.left != 0 {
-            self.next = scope_parent(self.store, s);
-            self.left -= 1;
+        if !self.begun {
+            self.begun = true;
+            return Some(self.at);
         }
-        Some(s)
+        if self.left == 0 {
+            return None;
+        }
+        self.left -= 1;
+        self.at = scope_parent(self.store, self.at)?;
+        Some(self.at)
     }
 }
