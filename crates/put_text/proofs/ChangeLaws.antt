@@ -221,7 +221,7 @@ module _ (s0 b s1 c s2 s3 s4 : List ℕ) (x k : ℕ) (bytes : Text) (may : Chang
       let m : module_in s2 ≡ module_in s0 = sym (module_kept s2) ∙ ap (λ (q : Kept). q.lowered) same ∙ module_kept s1 ∙ moved_module (at_name x) bytes s0 b s1 c may.fine moves in
       renamed_kept x k s2 s3 put ∙ rw (e, m, same)
 
-  name_changed : Changes (at_name x) bytes s0 b s4 c
+  pub name_changed : Changes (at_name x) bytes s0 b s4 c
   name_changed =
       changes (at_name x) bytes s0 b s1 c s2 s3 s4 k may moves added (wrote_module (omega arith) (omega arith) (renamed_wrote x k s2 s3 put)) (renamed_module x k s2 s3 put) name_row_lem spends
       (four_wrote again_inside moves.wrote texts_inside added.wrote names_inside (renamed_wrote x k s2 s3 put) spent_inside spends.wrote)
@@ -235,7 +235,7 @@ module _ (s0 b s1 c s2 s3 s4 : List ℕ) (e k : ℕ) (bytes : Text) (refers : Re
       let m : module_in s2 ≡ module_in s0 = sym (module_kept s2) ∙ ap (λ (z : Kept). z.lowered) same ∙ module_kept s1 ∙ moved_module (at_reference e) bytes s0 b s1 c may.fine moves in
       reworded_kept e k s2 s3 put ∙ rw (q, m, same, refers.is)
 
-  reference_changed : Changes (at_reference e) bytes s0 b s4 c
+  pub reference_changed : Changes (at_reference e) bytes s0 b s4 c
   reference_changed =
       changes (at_reference e) bytes s0 b s1 c s2 s3 s4 k may moves added (wrote_module (omega arith) (omega arith) (reworded_wrote e k s2 s3 put)) (reworded_module e k s2 s3 put) word_row spends
       (four_wrote again_inside moves.wrote texts_inside added.wrote words_inside (reworded_wrote e k s2 s3 put) spent_inside spends.wrote)

@@ -169,11 +169,11 @@ module _ {s p : List ℕ} {r : ℕ} {p' : List ℕ} (begun : Begun s p r p') whe
         by_length true e h = absurd (omega (arith, h))
         by_length false e h = (state_fit s 0 h refl, ltb-false (length p) reply_bytes e)
 
-    goes_on : p' ≡ p
+    pub goes_on : p' ≡ p
     goes_on = begun.reply ∙ rw passed
 
     -- what the rest of a call is promised
-    rest_fits : (condition_of s ≡ fit) × (reply_bytes ≤ length p')
+    pub rest_fits : (condition_of s ≡ fit) × (reply_bytes ≤ length p')
     rest_fits = rw goes_on fits_and_long
 
   module _ (refuses : r ≡ 0 → ⊥) (c : Call) (lent : reply_of c ≡ length p) where
@@ -189,10 +189,10 @@ module _ {s p : List ℕ} {r : ℕ} {p' : List ℕ} (begun : Begun s p r p') whe
     unfolding returned
     refusal_told = record { number = refl; reply = begun.reply ∙ rw (ne_eqb r 0 refuses) }
 
-    stopped_asked : (b : List ℕ) → Asked c s b p r b p'
+    pub stopped_asked : (b : List ℕ) → Asked c s b p r b p'
     stopped_asked b = refused_asked c s b p r b p' r 0 refused_first refusal_told refl
 
-    stopped_changed : (b : List ℕ) → Changed c s b p r s b p'
+    pub stopped_changed : (b : List ℕ) → Changed c s b p r s b p'
     stopped_changed b = refused_changed c s b p r p' r 0 refused_first refusal_told
 
 -- by what the first checks return

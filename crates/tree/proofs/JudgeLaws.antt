@@ -70,22 +70,23 @@ module _ (s : List ℕ) (nodes : ℕ) (first : Position) (h : Nodes s nodes firs
   unfolding judge judge_tree
   judged_as = ap judge_tree h.right
 
-  tree_is : (w : Result Front SheetRefused) → Walks s (walk_to (nodes_in s) 255 0) w → whole_tree (nodes_in s) (walked_of w) ≡ judge s
-  tree_is w k = ap (whole_tree (nodes_in s)) k.same ∙ sym judged_as
+  -- what the walk comes to is what the definitions judge
+  pub tree_judged : (w : Result Front SheetRefused) → Walks s (walk_to (nodes_in s) 255 0) w → whole_tree (nodes_in s) (walked_of w) ≡ judge s
+  tree_judged w k = ap (whole_tree (nodes_in s)) k.same ∙ sym judged_as
 
   pub stopped_tree : (r : SheetRefused) → Walks s (walk_to (nodes_in s) 255 0) (Err r) → refused (refusals.number_of r.why) r.place ≡ judge s
   unfolding whole_tree
-  stopped_tree r k = tree_is (Err r) k
+  stopped_tree r k = tree_judged (Err r) k
 
   module _ (front : Front) (k : Walks s (walk_to (nodes_in s) 255 0) (Ok front)) where
     pub met_all : front.highest + 1 ≡ nodes → accepted (nodes_in s) ≡ judge s
     unfolding whole_tree
-    met_all q = rw (eq-eqb (front.highest + 1) (length (nodes_in s)) (q ∙ h.count)) at (tree_is (Ok front) k)
+    met_all q = rw (eq-eqb (front.highest + 1) (length (nodes_in s)) (q ∙ h.count)) at (tree_judged (Ok front) k)
 
     -- 7: nodes are left
     pub met_few : (front.highest + 1 ≡ nodes → ⊥) → refused 7 (front.highest + 1) ≡ judge s
     unfolding whole_tree
-    met_few q = rw (ne_eqb (front.highest + 1) (length (nodes_in s)) (λ e. q (e ∙ sym h.count))) at (tree_is (Ok front) k)
+    met_few q = rw (ne_eqb (front.highest + 1) (length (nodes_in s)) (λ e. q (e ∙ sym h.count))) at (tree_judged (Ok front) k)
 
 -- ---- both
 module _ (s : List ℕ) (nodes : ℕ) (first : Position) (h : Nodes s nodes first) where
