@@ -20,9 +20,12 @@ impl CountedStore<'_> {
     {
         let at = EXPRS + EXPR_ROW * (e.0 as usize);
         let row = Row::at(self.store, at);
+        if !self.fields_fit(e, row) {
+            return false;
+        }
         let first = get32(self.store, at);
         let next = get32(self.store, at + EXPR_ROW);
-        self.fields_fit(e, row) && self.items_fit(e, row.sort, first, next)
+        self.items_fit(e, row.sort, first, next)
     }
 
     fn rows_fit(&self) -> bool
