@@ -1,19 +1,14 @@
 -- Which slots take a kind. Assumes nothing.
-use mathlib.Core.Path.{◌≡◌, refl, ap, sym, ◌∙◌}
+use mathlib.Core.Path.{◌≡◌, refl, ap, ◌∙◌}
 use mathlib.Core.Bool.{Bool, true, false, ◌&&◌, not}
 use mathlib.Core.List.{[], ◌∷◌}
-use Prim.Native.Nat.{ℕ, zero, suc, ◌<◌, ◌≤◌}
+use Prim.Native.Nat.{ℕ, zero, suc, ◌+◌, ◌-◌, ◌<◌, ◌≤◌}
 use native.Mathlib.Omega.{arith}
 use lib.Dec.{T, leb, lit<}
 use lib.ListN.{get_or}
 use borrow.Author.Tests.{ne_eqb, lt-leb, le-leb}
 use denote.Enum.Bare.{sameb}
-use Rattle.std.specs.Prelude.{Option, Some, None, MatchOption}
 use Rattle.spec.specs.Kinds.{takes}
-use Rattle.module.specs.SyntaxKinds.{number_of_syntax, syntax_of_number}
-use Rattle.module.specs.declared.syntax_kind.SyntaxKind.{SyntaxKind}
-use Rattle.module.specs.declared.syntax_kind.SyntaxKind.TheVariants as kind
-use Rattle.module.proofs.SyntaxKindLaws.{syntax_within, syntax_gap, syntax_told}
 use Rattle.tree.specs.Slots.{slot_of}
 use Rattle.tree.specs.contracts.slots.Slot.{the_type}
 use Rattle.tree.specs.declared.slots.Slot.{Slot}
@@ -49,19 +44,21 @@ at_slot P h Ident = at_number 10 (λ n. P (slot_at n)) h 7 (lit< tt)
 at_slot P h Bind = at_number 10 (λ n. P (slot_at n)) h 8 (lit< tt)
 at_slot P h PatternEntry = at_number 10 (λ n. P (slot_at n)) h 9 (lit< tt)
 
--- the kind is taken by the slot y and by no other
+-- the kind k is taken by the slot y and by no other
 abbrev pub only : Slot → ℕ → Bool
 only y k = all_slots (λ x. same (sameb the_type x y) (takes (slot_of x) k))
 
-pub taken_alone : (y : Slot) (k j : SyntaxKind) → T (only y (number_of_syntax k)) → j ≡ k → (x : Slot) (b : Bool) → b ≡ sameb the_type x y
-    → b ≡ takes (slot_of x) (number_of_syntax j)
-taken_alone y k j h e x b q =
-    q ∙ (same_eq _ _ (at_slot (λ x. same (sameb the_type x y) (takes (slot_of x) (number_of_syntax k))) h x)
-    ∙ ap (λ k. takes (slot_of x) (number_of_syntax k)) (sym e))
+-- so it is with all kinds of a range
+pub taken_alone : (y : Slot) (from n : ℕ) → T (all_up_to n (λ i. only y (from + i))) → (k : ℕ) → from ≤ k → k < from + n → (x : Slot) (b : Bool)
+    → b ≡ sameb the_type x y → b ≡ takes (slot_of x) k
+taken_alone y from n h k l u x b q =
+    let e : from + (k - from) ≡ k = omega arith in
+    let one = at_number n (λ i. only y (from + i)) h (k - from) (omega arith) in
+    q ∙ (same_eq _ _ (at_slot (λ x. same (sameb the_type x y) (takes (slot_of x) (from + (k - from)))) one x) ∙ ap (takes (slot_of x)) e)
 
 -- a string, and a name
-pub no_string : (x : Slot) (k : SyntaxKind) → k ≡ kind.Str → (x ≡ Expression → ⊥) → (x ≡ Attribute → ⊥) → false ≡ takes (slot_of x) (number_of_syntax k)
-unfolding slot_of takes number_of_syntax
+pub no_string : (x : Slot) (k : ℕ) → k ≡ 6 → (x ≡ Expression → ⊥) → (x ≡ Attribute → ⊥) → false ≡ takes (slot_of x) k
+unfolding slot_of takes
 no_string Expression k e a b = absurd (a refl)
 no_string Path k e a b = rw e refl
 no_string Attribute k e a b = absurd (b refl)
@@ -73,9 +70,9 @@ no_string Ident k e a b = rw e refl
 no_string Bind k e a b = rw e refl
 no_string PatternEntry k e a b = rw e refl
 
-pub no_name : (x : Slot) (k : SyntaxKind) → k ≡ kind.Ident → (x ≡ Expression → ⊥) → (x ≡ Attribute → ⊥) → (x ≡ Ident → ⊥)
-    → false ≡ takes (slot_of x) (number_of_syntax k)
-unfolding slot_of takes number_of_syntax
+pub no_name : (x : Slot) (k : ℕ) → k ≡ 18 → (x ≡ Expression → ⊥) → (x ≡ Attribute → ⊥) → (x ≡ Ident → ⊥)
+    → false ≡ takes (slot_of x) k
+unfolding slot_of takes
 no_name Expression k e a b d = absurd (a refl)
 no_name Path k e a b d = rw e refl
 no_name Attribute k e a b d = absurd (b refl)
@@ -88,26 +85,26 @@ no_name Bind k e a b d = rw e refl
 no_name PatternEntry k e a b d = rw e refl
 
 -- the other kinds up to 22 are expressions alone
-pub expression_alone : (k : SyntaxKind) → (number_of_syntax k ≤ 22) × ((number_of_syntax k ≡ 6 → ⊥) × (number_of_syntax k ≡ 18 → ⊥))
-    → (x : Slot) (b : Bool) → b ≡ sameb the_type x Expression → b ≡ takes (slot_of x) (number_of_syntax k)
+pub expression_alone : (k : ℕ) → 1 ≤ k → k ≤ 22 → (k ≡ 6 → ⊥) → (k ≡ 18 → ⊥) → (x : Slot) (b : Bool) → b ≡ sameb the_type x Expression
+    → b ≡ takes (slot_of x) k
 unfolding slot_of takes
-expression_alone k h Expression b e = e ∙ rw (le-leb 1 (number_of_syntax k) (syntax_within k).0, le-leb (number_of_syntax k) 22 h.0) refl
-expression_alone k h Path b e = e ∙ rw (ne_eqb (number_of_syntax k) 23 (λ e. omega arith)) refl
-expression_alone k h Attribute b e =
-    e ∙ rw (ne_eqb (number_of_syntax k) 6 h.1.0, ne_eqb (number_of_syntax k) 18 h.1.1, ne_eqb (number_of_syntax k) 24 (λ e. omega arith)) refl
-expression_alone k h Entry b e =
-    e ∙ rw (ne_eqb (number_of_syntax k) 25 (λ e. omega arith), ne_eqb (number_of_syntax k) 26 (λ e. omega arith)) refl
-expression_alone k h Part b e =
-    e ∙ rw (ne_eqb (number_of_syntax k) 32 (λ e. omega arith), ne_eqb (number_of_syntax k) 33 (λ e. omega arith)) refl
-expression_alone k h Parameter b e =
-    e ∙ rw (ne_eqb (number_of_syntax k) 28 (λ e. omega arith), ne_eqb (number_of_syntax k) 29 (λ e. omega arith)) refl
-expression_alone k h From b e = e ∙ rw (ne_eqb (number_of_syntax k) 27 (λ e. omega arith)) refl
-expression_alone k h Ident b e = e ∙ rw (ne_eqb (number_of_syntax k) 18 h.1.1) refl
-expression_alone k h Bind b e = e ∙ rw (ne_eqb (number_of_syntax k) 30 (λ e. omega arith)) refl
-expression_alone k h PatternEntry b e = e ∙ rw (ne_eqb (number_of_syntax k) 31 (λ e. omega arith)) refl
+expression_alone k l u s i Expression b e = e ∙ rw (le-leb 1 k l, le-leb k 22 u) refl
+expression_alone k l u s i Path b e = e ∙ rw (ne_eqb k 23 (λ e. omega arith)) refl
+expression_alone k l u s i Attribute b e =
+    e ∙ rw (ne_eqb k 6 s, ne_eqb k 18 i, ne_eqb k 24 (λ e. omega arith)) refl
+expression_alone k l u s i Entry b e =
+    e ∙ rw (ne_eqb k 25 (λ e. omega arith), ne_eqb k 26 (λ e. omega arith)) refl
+expression_alone k l u s i Part b e =
+    e ∙ rw (ne_eqb k 32 (λ e. omega arith), ne_eqb k 33 (λ e. omega arith)) refl
+expression_alone k l u s i Parameter b e =
+    e ∙ rw (ne_eqb k 28 (λ e. omega arith), ne_eqb k 29 (λ e. omega arith)) refl
+expression_alone k l u s i From b e = e ∙ rw (ne_eqb k 27 (λ e. omega arith)) refl
+expression_alone k l u s i Ident b e = e ∙ rw (ne_eqb k 18 i) refl
+expression_alone k l u s i Bind b e = e ∙ rw (ne_eqb k 30 (λ e. omega arith)) refl
+expression_alone k l u s i PatternEntry b e = e ∙ rw (ne_eqb k 31 (λ e. omega arith)) refl
 
 -- no slot takes a number that is no kind
-beyond : (x : Slot) (k : ℕ) → (0 < k → 33 < k) → false ≡ takes (slot_of x) k
+pub beyond : (x : Slot) (k : ℕ) → (0 < k → 33 < k) → false ≡ takes (slot_of x) k
 unfolding slot_of takes
 beyond Expression zero h = refl
 beyond Expression (suc k) h = rw (lt-leb (suc k) 22 (omega arith)) (never (leb 1 (suc k)))
@@ -124,9 +121,3 @@ beyond From k h = rw (ne_eqb k 27 (λ e. omega arith))
 beyond Ident k h = rw (ne_eqb k 18 (λ e. omega arith))
 beyond Bind k h = rw (ne_eqb k 30 (λ e. omega arith))
 beyond PatternEntry k h = rw (ne_eqb k 31 (λ e. omega arith))
-
--- the slot and the number of a kind, or of none
-pub by_number : (x : Slot) (n : ℕ) (o : Option SyntaxKind) (b : Bool) → o ≡ syntax_of_number n
-    → MatchOption o (b ≡ false) (λ k. b ≡ takes (slot_of x) (number_of_syntax k)) → b ≡ takes (slot_of x) n
-by_number x n None b e h = h ∙ beyond x n (syntax_gap n (sym e))
-by_number x n (Some k) b e h = h ∙ ap (takes (slot_of x)) (syntax_told n k (sym e))

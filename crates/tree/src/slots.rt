@@ -22,31 +22,32 @@ pub enum Slot {
 }
 
 impl Slot {
-    // Whether the slot takes a node of this kind. The kind decides, since it is the child that is met.
-    #[tactic(auto, unfolding(crate::specs::Slots::slot_of))]
+    // Whether the slot takes a node of this kind.
     pub fn takes(self, kind: SyntaxKind) -> bool
         ensures { result ≡ Kinds.takes (slot_of self) (number_of_syntax kind) }
     {
-        match kind {
-            SyntaxKind::Str => matches!(self, Slot::Expression | Slot::Attribute),
-            SyntaxKind::Ident => matches!(self, Slot::Expression | Slot::Attribute | Slot::Ident),
-            SyntaxKind::Attrpath => self == Slot::Path,
-            SyntaxKind::Dynamic => self == Slot::Attribute,
-            SyntaxKind::AttrpathValue | SyntaxKind::Inherit => self == Slot::Entry,
-            SyntaxKind::InheritFrom => self == Slot::From,
-            SyntaxKind::IdentParam | SyntaxKind::Pattern => self == Slot::Parameter,
-            SyntaxKind::PatBind => self == Slot::Bind,
-            SyntaxKind::PatEntry => self == Slot::PatternEntry,
-            SyntaxKind::LiteralPart | SyntaxKind::Interpolation => self == Slot::Part,
-            _ => self == Slot::Expression,
-        }
+        takes(self, kind.number())
     }
 }
 
-// The same by the number of a kind: no slot takes a number that is no kind. It promises something for every number, and
-// to take a `SyntaxKind` would ask more of callers.
+// The same by the number of a kind: no slot takes a number that is no kind. The kind decides, since it is the child
+// that is met.
+#[tactic(auto, unfolding(crate::specs::Slots::slot_of))]
 pub fn takes(slot: Slot, kind: u32) -> bool
     ensures { result ≡ Kinds.takes (slot_of slot) kind }
 {
-    SyntaxKind::of(kind).is_some_and(|kind| slot.takes(kind))
+    match kind {
+        6 => matches!(slot, Slot::Expression | Slot::Attribute),
+        18 => matches!(slot, Slot::Expression | Slot::Attribute | Slot::Ident),
+        1..=22 => slot == Slot::Expression,
+        23 => slot == Slot::Path,
+        24 => slot == Slot::Attribute,
+        25..=26 => slot == Slot::Entry,
+        27 => slot == Slot::From,
+        28..=29 => slot == Slot::Parameter,
+        30 => slot == Slot::Bind,
+        31 => slot == Slot::PatternEntry,
+        32..=33 => slot == Slot::Part,
+        _ => false,
+    }
 }
