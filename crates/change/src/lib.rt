@@ -7,30 +7,37 @@
 ghost use Rattle.std.specs.Prelude.{◌≡◌, ◌≤◌, length};
 ghost use Rattle.spec.specs.Calls.{fit, reply_bytes, change_reference, change_name};
 ghost use Rattle.soundness.specs.Sound.{condition_of};
-ghost use Rattle.moving.specs.Places.{place_of};
 ghost use Rattle.requests.specs.Requests.{Changed};
 ghost use Rattle.change.specs.Judged.{call_at};
+ghost use Rattle.change.specs.Targets.{target_of};
 
 mod judging;
 mod new_text;
+mod target;
 
 use judging::judge;
-use module::{ExprId, NameId};
-use moving::Place;
 use put_text::put_text;
 use replies::tell_count;
 use requests::begin;
+use target::Target;
 
 // In a fit store. An equal text changes and moves nothing.
-fn set_text(store: &mut [u8], place: Place, text: &[u8], moved: &mut [u8], reply: &mut [u8]) -> u32
+fn set_text(
+    store: &mut [u8],
+    target: Target,
+    text: &[u8],
+    moved: &mut [u8],
+    reply: &mut [u8],
+) -> u32
     requires { (condition_of store.old ≡ fit) × (reply_bytes ≤ length reply.old) }
-    ensures { Changed (call_at (place_of place) text.now (length moved.old) (length reply.old)) store.old moved.old reply.old result store.new moved.new reply.new }
+    ensures { Changed (call_at (target_of target) text.now (length moved.old) (length reply.old)) store.old moved.old reply.old result store.new moved.new reply.new }
 {
-    match judge(store, place, text, moved.len()) {
+    match judge(store, target, text, moved.len()) {
         Err(refused) => refused.tell(reply),
         Ok(judged) => match judged {
             None => tell_count(reply, 0),
             Some(count) => {
+                let place = target.place();
                 put_text(store, place, text, count, moved);
                 tell_count(reply, count)
             }
@@ -38,12 +45,12 @@ fn set_text(store: &mut [u8], place: Place, text: &[u8], moved: &mut [u8], reply
     }
 }
 
-// Sets the text at a place.
-fn change(store: &mut [u8], place: Place, text: &[u8], moved: &mut [u8], reply: &mut [u8]) -> u32
-    ensures { Changed (call_at (place_of place) text.now (length moved.old) (length reply.old)) store.old moved.old reply.old result store.new moved.new reply.new }
+// Sets the text of a target.
+fn change(store: &mut [u8], target: Target, text: &[u8], moved: &mut [u8], reply: &mut [u8]) -> u32
+    ensures { Changed (call_at (target_of target) text.now (length moved.old) (length reply.old)) store.old moved.old reply.old result store.new moved.new reply.new }
 {
     match begin(store, reply) {
-        Ok(()) => set_text(store, place, text, moved, reply),
+        Ok(()) => set_text(store, target, text, moved, reply),
         Err(why) => why.number(),
     }
 }
@@ -58,7 +65,7 @@ pub fn change_reference(
 ) -> u32
     ensures { Changed (change_reference number text.now (length moved.old) (length reply.old)) store.old moved.old reply.old result store.new moved.new reply.new }
 {
-    change(store, Place::Reference(ExprId(number)), text, moved, reply)
+    change(store, Target::Reference(number), text, moved, reply)
 }
 
 // Sets the text of a name.
@@ -71,5 +78,5 @@ pub fn change_name(
 ) -> u32
     ensures { Changed (change_name number text.now (length moved.old) (length reply.old)) store.old moved.old reply.old result store.new moved.new reply.new }
 {
-    change(store, Place::Name(NameId(number)), text, moved, reply)
+    change(store, Target::Name(number), text, moved, reply)
 }
