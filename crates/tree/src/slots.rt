@@ -30,8 +30,8 @@ impl Slot {
     }
 }
 
-// The same by the number of a kind: no slot takes a number that is no kind. The kind decides, since it is the child
-// that is met.
+// The same by the number of a kind, which decides since it is the child that is met: no slot takes a number that is no
+// kind. It promises something for every number, and to take a `SyntaxKind` would ask more of callers.
 #[tactic(auto, unfolding(crate::specs::Slots::slot_of))]
 pub fn takes(slot: Slot, kind: u32) -> bool
     ensures { result ≡ Kinds.takes (slot_of slot) kind }
