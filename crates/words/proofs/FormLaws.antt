@@ -9,6 +9,7 @@ use Prim.Native.Nat.compare.{suc-suc}
 use native.Mathlib.Omega.{arith}
 use lib.Dec.{eqb}
 use lib.ListN.{length, take, get_or, set}
+use Rattle.std.proofs.Math.Bool.{and-false}
 use Rattle.std.specs.declared.cmp.Ordering.{Ordering}
 use Rattle.std.specs.declared.cmp.Ordering.TheVariants.{Less, Equal, Greater}
 use Rattle.std.specs.Ordering.{nat_cmp, ordering_then}
@@ -20,23 +21,19 @@ use Rattle.words.specs.Runs.{run, splice}
 use Rattle.words.proofs.RunLaws.{length_run, run_cons, run_splice_other}
 
 -- ---- the lengths first, then the bytes
-and_false : (b : Bool) → (b && false) ≡ false
-and_false true = refl
-and_false false = refl
-
 eqb_suc : (m n : ℕ) → eqb (suc m) (suc n) ≡ eqb m n
 eqb_suc m n = rw (suc-suc m n)
 
 pub long : (xs ys : List ℕ) → (eqb (length xs) (length ys) && equalb xs ys) ≡ equalb xs ys
 unfolding equalb
 long [] [] = refl
-long [] (y ∷ ys) = and_false (eqb 0 (length (y ∷ ys)))
-long (x ∷ xs) [] = and_false (eqb (length (x ∷ xs)) 0)
+long [] (y ∷ ys) = and-false (eqb 0 (length (y ∷ ys)))
+long (x ∷ xs) [] = and-false (eqb (length (x ∷ xs)) 0)
 long (x ∷ xs) (y ∷ ys) = rw (eqb_suc (length xs) (length ys)) (go (eqb x y) (long xs ys))
   where
     go : (b : Bool) → (eqb (length xs) (length ys) && equalb xs ys) ≡ equalb xs ys → (eqb (length xs) (length ys) && (b && equalb xs ys)) ≡ (b && equalb xs ys)
     go true h = h
-    go false h = and_false (eqb (length xs) (length ys))
+    go false h = and-false (eqb (length xs) (length ys))
 
 -- ---- the bytes up to the shorter length, then the lengths
 then_then : (p q r : Ordering) → ordering_then (ordering_then p q) r ≡ ordering_then p (ordering_then q r)
